@@ -1,0 +1,4 @@
+pub mod Declarations
+pub mod Fields
+pub mod Headings
+pub mod Tables

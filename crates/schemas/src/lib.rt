@@ -1,0 +1,7 @@
+//! Schemas: the columns of a frame's record, declared before an arena is opened.
+pub mod column;
+pub mod declaring;
+pub mod found;
+pub mod schema;
+pub mod schemas;
+pub mod tables;
