@@ -1,5 +1,4 @@
-//! The text that the program reads and prints: lines, words, the names of types.
-pub mod display;
+//! The text that the program reads: lines, words, numbers, the names of types.
 pub mod line;
 pub mod lines;
 pub mod naturals;

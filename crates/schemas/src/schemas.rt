@@ -1,6 +1,8 @@
 ghost use mathlib.Core.Path.{_≡_};
-ghost use Rattle.schemas.specs.AllSchemas.{numbered, sought};
-ghost use Rattle.schemas.specs.Tables.{allFields};
+ghost use Rattle.std.specs.Results.{mapped};
+ghost use Rattle.std.specs.declared.result.Result.the-variants.{Ok};
+ghost use Rattle.schemas.specs.AllSchemas.{numbered, inSchema, sought};
+ghost use Rattle.schemas.specs.Tables.{fieldsOf, allFields};
 use crate::found::Found;
 use crate::tables::Schema;
 use crate::tables::Schemas;
@@ -23,6 +25,14 @@ pub(crate) fn index_of(schema: u8) -> Result<usize, MemoryRefusal>
 }
 
 impl Schemas {
+    /// The schema of that number.
+    pub fn schema(&self, schema: u8) -> Result<&Schema, Refusal>
+        ensures { λ r. ⌜ mapped (λ s. fieldsOf (now s)) (λ e. e) r ≡ inSchema schema Ok (allFields (now (self .entry))) ⌝ }
+    {
+        let at = index_of(schema)?;
+        Ok(&self.table[at])
+    }
+
     /// The place and the type of a schema's column of that name.
     pub fn find(&self, schema: u8, name: &[u8]) -> Result<Option<Found>, Refusal>
         ensures { λ r. ⌜ r ≡ sought schema (now (name .entry)) (allFields (now (self .entry))) ⌝ }
