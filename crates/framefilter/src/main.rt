@@ -60,5 +60,5 @@ fn main(rt: LibcRuntime) -> io::Result<()> {
         number = number.saturating_add(1);
         carry_out(&rt, &mut declaring, number, line.as_slice())?;
     }
-    print_schema(&rt, declaring.schemas())
+    print_schema(&rt, &declaring.finish())
 }

@@ -1,4 +1,4 @@
 pub mod Adding
 pub mod Lookup
 pub mod Names
-pub mod Reading
+pub mod TableReads

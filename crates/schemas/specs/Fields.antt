@@ -13,6 +13,9 @@ pub record Field : Type 0 where
   pub name : List ℕ
   pub dtype : DType
 
+abbrev pub field : List ℕ → DType → Field
+field n t = record { name = n; dtype = t }
+
 -- the first column of that name, where the first of the list stands at place i
 abbrev pub foundFrom : ℕ → List ℕ → List Field → Option Found
 foundFrom i name [] = None

@@ -1,6 +1,7 @@
 -- Schemas as their readers see them: lists of columns.
 use mathlib.Core.List.{List, map}
 use lib.ListN.{take}
+use Rattle.schemas.specs.declared.declaring.Declaring.{Declaring}
 use Rattle.schemas.specs.declared.tables.Schema.{Schema}
 use Rattle.schemas.specs.declared.tables.Schemas.{Schemas}
 use Rattle.schemas.specs.Fields.{Field}
@@ -13,3 +14,7 @@ fieldsOf s = map fieldOf (take (s .count) (s .columns))
 -- the columns of each schema
 abbrev pub allFields : Schemas → List (List Field)
 allFields ss = map fieldsOf (ss .table)
+
+-- the columns declared so far
+abbrev pub declaredIn : Declaring → List (List Field)
+declaredIn d = allFields (d .schemas)

@@ -2,7 +2,8 @@ ghost use mathlib.Core.List.{[]};
 ghost use mathlib.Core.Path.{_≡_};
 ghost use lib.ListN.{replicate};
 ghost use Rattle.schemas.specs.AllSchemas.{added, after, Found-stays-found};
-ghost use Rattle.schemas.specs.Tables.{allFields};
+ghost use Rattle.schemas.specs.Fields.{field};
+ghost use Rattle.schemas.specs.Tables.{declaredIn};
 use crate::column::Column;
 use crate::schemas::index_of;
 use crate::tables::Schema;
@@ -23,7 +24,7 @@ pub struct Declaring {
 impl Declaring {
     /// Eight schemas without columns.
     pub fn new() -> Declaring
-        ensures { λ r. ⌜ allFields (r .schemas) ≡ replicate 8 [] ⌝ }
+        ensures { λ r. ⌜ declaredIn r ≡ replicate 8 [] ⌝ }
     {
         let unused = Column {
             name: [0; 32],
@@ -39,17 +40,10 @@ impl Declaring {
         }
     }
 
-    /// The schemas as declared so far.
-    pub fn schemas(&self) -> &Schemas
-        ensures { λ r. ⌜ now r ≡ now (self .entry) .schemas ⌝ }
-    {
-        &self.schemas
-    }
-
     /// Adds a column behind the others of its schema, and answers its place.
     pub fn add_column(&mut self, schema: u8, name: &[u8], dtype: DType) -> Result<u8, Refusal>
-        ensures answer { λ r. ⌜ r ≡ added schema (record { name = now (name .entry); dtype = dtype }) (allFields (now (self .entry) .schemas)) ⌝ }
-        ensures after { λ r. ⌜ allFields (now (self .exit) .schemas) ≡ after r schema (record { name = now (name .entry); dtype = dtype }) (allFields (now (self .entry) .schemas)) ⌝ }
+        ensures answer { λ r. ⌜ r ≡ added schema (field (now (name .entry)) dtype) (declaredIn (now (self .entry))) ⌝ }
+        ensures after { λ r. ⌜ declaredIn (now (self .exit)) ≡ after r schema (field (now (name .entry)) dtype) (declaredIn (now (self .entry))) ⌝ }
         ensures law { λ _. ⌜ Found-stays-found ⌝ }
     {
         let at = index_of(schema)?;

@@ -53,7 +53,7 @@ impl DType {
         ensures value { λ r. ⌜ r ≡ alike self other ⌝ }
         ensures law { λ _. ⌜ Alike-is-one-kind ⌝ }
     {
-        self.kind == other.kind
+        other.kind == self.kind
     }
 
     /// Whether a column may have it: it is no `Row`, and no `Extension` above 15.

@@ -4,7 +4,7 @@ use native.Mathlib.Omega.{arith}
 use Rattle.schemas.specs.AllSchemas.{placed}
 use Rattle.schemas.specs.Fields.{Field}
 use Rattle.schemas.proofs.Names.{found-stays-found}
-use Rattle.schemas.proofs.Reading.{numbered-ok, answered, placed-refused, placed-granted, same-fields, more-fields}
+use Rattle.schemas.proofs.TableReads.{numbered-ok, answered, placed-refused, placed-granted, same-fields, more-fields}
 use Rattle.schemas.proofs.declaring.Declaring.add_column.Needs as need
 
 pub returns-then-not-add : need.returns-then-not-add

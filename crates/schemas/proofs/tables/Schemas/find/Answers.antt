@@ -2,7 +2,7 @@ use mathlib.Core.Path.{ap, _∙_}
 use native.Mathlib.Omega.{arith}
 use Rattle.std.specs.declared.result.Result.the-variants.{Ok}
 use Rattle.schemas.specs.Fields.{found}
-use Rattle.schemas.proofs.Reading.{answered}
+use Rattle.schemas.proofs.TableReads.{answered}
 use Rattle.schemas.proofs.tables.Schemas.find.Needs as need
 
 pub returns : need.returns

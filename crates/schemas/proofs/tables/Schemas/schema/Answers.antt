@@ -1,6 +1,6 @@
 use native.Mathlib.Omega.{arith}
 use Rattle.std.specs.declared.result.Result.the-variants.{Ok}
-use Rattle.schemas.proofs.Reading.{answered}
+use Rattle.schemas.proofs.TableReads.{answered}
 use Rattle.schemas.proofs.tables.Schemas.schema.Needs as need
 
 pub returns : need.returns
