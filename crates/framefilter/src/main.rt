@@ -40,14 +40,13 @@ fn print_schema(rt: &LibcRuntime, schemas: &Schemas) -> io::Result<()> {
     let Ok(schema) = schemas.schema(CHANNEL) else {
         return Ok(());
     };
-    let count = schema.len();
+    let columns = schema.columns();
+    let count = columns.len();
     println!(rt, "columns: {count}")?;
-    for place in 0..count {
-        if let Some(column) = schema.column(place) {
-            let name = BytesText(column.name());
-            let dtype = TypeName(column.dtype());
-            println!(rt, "  {place} {name} {dtype}")?;
-        }
+    for (place, column) in columns.iter().enumerate() {
+        let name = BytesText(column.name());
+        let dtype = TypeName(column.dtype());
+        println!(rt, "  {place} {name} {dtype}")?;
     }
     Ok(())
 }

@@ -4,8 +4,8 @@ ghost use Rattle.notation.specs.Lines.{said, mistaken, columnNamed, columnLine
 use crate::line::*;
 use crate::type_names::read_type;
 use crate::words::after_blanks;
-use crate::words::same_bytes;
 use crate::words::split_word;
+use vocabulary::texts::same_bytes;
 
 /// A complaint about the place where the rest of the line begins.
 fn mistake(line: &[u8], rest: &[u8], complaint: Complaint) -> Mistake

@@ -12,7 +12,7 @@ fn push_digit(number: u64, digit: u8) -> Option<u64>
 }
 
 /// The number that the digits write, if there are some and it has at most 64 bits.
-pub fn read_natural(digits: &[u8]) -> Option<u64>
+pub(crate) fn read_natural(digits: &[u8]) -> Option<u64>
     ensures { λ r. ⌜ r ≡ natural (now (digits .entry)) ⌝ }
 {
     if digits.is_empty() {

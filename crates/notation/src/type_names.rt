@@ -51,7 +51,7 @@ fn read_numbered_kind(name: &[u8]) -> Option<Kind>
 }
 
 /// The kind of that name.
-pub fn read_kind(name: &[u8]) -> Option<Kind>
+pub(crate) fn read_kind(name: &[u8]) -> Option<Kind>
     ensures { λ r. ⌜ r ≡ kindNamed (now (name .entry)) ⌝ }
 {
     match name {
@@ -64,7 +64,7 @@ pub fn read_kind(name: &[u8]) -> Option<Kind>
 }
 
 /// The type of that name: its kind's, with a question mark behind it if it is nullable.
-pub fn read_type(name: &[u8]) -> Option<DType>
+pub(crate) fn read_type(name: &[u8]) -> Option<DType>
     ensures { λ r. ⌜ r ≡ typeNamed (now (name .entry)) ⌝ }
 {
     match without_ending(name, b"?") {

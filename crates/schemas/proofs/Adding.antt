@@ -4,7 +4,7 @@ use mathlib.Core.List.{List, [], _∷_, _++_, map, append-assoc, append-nil}
 use mathlib.Core.Bool.{true, _&&_}
 use Prim.Native.Nat.{ℕ, _+_, _<_, _≤_}
 use native.Mathlib.Omega.{arith}
-use lib.ListN.{length, take, set}
+use lib.ListN.{length, take, set, length-append}
 use Rattle.std.proofs.shelf.Lists.{take-more-set, map-push}
 use Rattle.std.proofs.shelf.Tests.{and-parts, and-from}
 use Rattle.std.proofs.shelf.Ways.{tells}
@@ -14,7 +14,6 @@ use Rattle.schemas.specs.Fields.{Field}
 use Rattle.schemas.specs.Headings.{fieldOf}
 use Rattle.schemas.specs.Tables.{fieldsOf}
 use Rattle.schemas.specs.declared.tables.Schema.{Schema}
-use Rattle.schemas.proofs.Lookup.{fields-count}
 
 -- a column written behind the first n shows as one more
 pub fields-push : (cs : List Column) (n : ℕ) (x : Column) → n < length cs
@@ -40,19 +39,29 @@ pub taken-fits : (fs : List Field) (f : Field)
     → takes fs f ≡ true → (length (f .name) ≤ 32) × (length fs < 32)
 taken-fits fs f h = grind (arith, tells)
 
--- what holds of a schema whose table gets the column x, which shows as f, behind the others
+-- the table of a schema with the column x written behind the others
+abbrev pub written : Schema → Column → List Column
+written s x = take (s .count + 1) (set (s .columns) (s .count) x)
+
+-- what holds of it, where x shows as the column f, which the schema takes
 pub record Pushed (s : Schema) (x : Column) (f : Field) : Type 0 where
   pub room : s .count < 32
-  pub columns : map fieldOf (take (s .count + 1) (set (s .columns) (s .count) x)) ≡ fieldsOf s ++ (f ∷ [])
-  pub sound : declared (map fieldOf (take (s .count + 1) (set (s .columns) (s .count) x))) ≡ true
+  pub columns : map fieldOf (written s x) ≡ fieldsOf s ++ (f ∷ [])
+  pub counted : length (map fieldOf (written s x)) ≡ s .count + 1
+  pub sound : declared (map fieldOf (written s x)) ≡ true
 
 pub pushed : (s : Schema) (x : Column) (f : Field)
     → fieldOf x ≡ f → true ≡ takes (fieldsOf s) f → Pushed s x f
 pushed s x f e h =
-    let counted = fields-count (s .columns) (s .count) (omega (arith, s .few, s .whole)) in
-    let room : s .count < 32 = omega (arith, taken-fits (fieldsOf s) f (sym h) .1) in
-    let more : map fieldOf (take (s .count + 1) (set (s .columns) (s .count) x)) ≡ fieldsOf s ++ (f ∷ []) =
+    let room : s .count < 32 = omega (arith, taken-fits (fieldsOf s) f (sym h) .1, s .counted) in
+    let more : map fieldOf (written s x) ≡ fieldsOf s ++ (f ∷ []) =
     fields-push (s .columns) (s .count) x (omega (arith, s .whole))
     ∙ ap (λ (g : Field). fieldsOf s ++ (g ∷ [])) e
     in
-    record { room = room; columns = more; sound = rw more (declared-push (fieldsOf s) f (s .sound) (sym h)) }
+    let long = length-append (fieldsOf s) (f ∷ []) in
+    record {
+      room = room;
+      columns = more;
+      counted = ap length more ∙ omega (arith, long, s .counted);
+      sound = rw more (declared-push (fieldsOf s) f (s .sound) (sym h));
+    }

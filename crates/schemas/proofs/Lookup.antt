@@ -8,9 +8,7 @@ use lib.ListN.{length, getD, take, drop, length-take}
 use Rattle.std.specs.shelf.Text.{sameBytes}
 use Rattle.std.specs.declared.option.Option.{Option}
 use Rattle.std.specs.declared.option.Option.the-variants.{Some, None}
-use Rattle.std.specs.Runs.{nth}
-use Rattle.std.proofs.shelf.Maps.{nth-getD}
-use Rattle.std.proofs.shelf.Lists.{at-drop-more, at-drop-all, getD-take, getD-map, length-map}
+use Rattle.std.proofs.shelf.Lists.{at-drop-more, at-drop-all, getD-take}
 use Rattle.schemas.specs.declared.column.Column.{Column}
 use Rattle.schemas.specs.Fields.{foundFrom}
 use Rattle.schemas.specs.Headings.{nameOf, fieldOf}
@@ -39,17 +37,3 @@ pub found-end : (name : List ℕ) (n : ℕ) (cs : List Column) (i : ℕ)
     → n ≤ i → foundFrom i name (map fieldOf (from i n cs)) ≡ None
 found-end name n cs i h =
     at-drop-all (λ (ys : List Column). foundFrom i name (map fieldOf ys)) (take n cs) i (simp length-take (omega arith))
-
--- a schema shows as many columns as it counts
-pub fields-count : (cs : List Column) (n : ℕ) → n ≤ length cs → length (map fieldOf (take n cs)) ≡ n
-fields-count cs n h = simp (length-map, length-take) (omega arith)
-
--- the column at a place, read from the table
-pub field-at : (cs : List Column) (n i : ℕ) (d : Column) → i < n → n ≤ length cs
-    → Some (fieldOf (getD cs i d)) ≡ nth (map fieldOf (take n cs)) i
-field-at cs n i d h k =
-    let inside : i < length (take n cs) = simp length-take (omega arith) in
-    let shown : i < length (map fieldOf (take n cs)) = simp (length-map, length-take) (omega arith) in
-    ap (λ (x : Column). Some (fieldOf x)) (sym (getD-take n cs i d h))
-    ∙ ap Some (sym (getD-map fieldOf (take n cs) i d (fieldOf d) inside))
-    ∙ sym (nth-getD (map fieldOf (take n cs)) i (fieldOf d) shown)

@@ -1,17 +1,13 @@
 ghost use mathlib.Core.List.{[]};
 ghost use mathlib.Core.Path.{_≡_};
 ghost use lib.ListN.{replicate};
-ghost use Rattle.schemas.specs.AllSchemas.{added, after, Found-stays-found};
+ghost use Rattle.schemas.specs.AllSchemas.{added, after};
 ghost use Rattle.schemas.specs.Fields.{field};
 ghost use Rattle.schemas.specs.Tables.{declaredIn};
 use crate::column::Column;
-use crate::schemas::index_of;
 use crate::tables::Schema;
 use crate::tables::Schemas;
-use vocabulary::refusals::BindingRefusal;
 use vocabulary::refusals::Refusal;
-use vocabulary::refusals::RefusalFromBinding;
-use vocabulary::refusals::RefusalFromMemory;
 use vocabulary::types::DType;
 use vocabulary::types::Kind;
 
@@ -44,15 +40,8 @@ impl Declaring {
     pub fn add_column(&mut self, schema: u8, name: &[u8], dtype: DType) -> Result<u8, Refusal>
         ensures answer { λ r. ⌜ r ≡ added schema (field (now (name .entry)) dtype) (declaredIn (now (self .entry))) ⌝ }
         ensures after { λ r. ⌜ declaredIn (now (self .exit)) ≡ after r schema (field (now (name .entry)) dtype) (declaredIn (now (self .entry))) ⌝ }
-        ensures law { λ _. ⌜ Found-stays-found ⌝ }
     {
-        let at = index_of(schema)?;
-        let target = &mut self.schemas.table[at];
-        let column = target.len();
-        if !target.add(name, dtype) {
-            return Err(BindingRefusal::BadColumn { schema, column }.into());
-        }
-        Ok(column)
+        self.schemas.add(schema, name, dtype)
     }
 
     /// Ends declaring.

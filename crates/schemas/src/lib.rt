@@ -2,6 +2,7 @@
 pub mod column;
 pub mod declaring;
 pub mod found;
+pub mod laws;
 pub mod reading;
 pub mod schema;
 pub mod schemas;

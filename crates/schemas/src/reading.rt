@@ -1,12 +1,12 @@
+ghost use mathlib.Core.List.{map};
 ghost use mathlib.Core.Path.{_≡_};
 ghost use lib.ListN.{length};
-ghost use Rattle.std.specs.Options.{mapped};
-ghost use Rattle.std.specs.Runs.{nth};
 ghost use Rattle.std.specs.shelf.Text.{sameBytes};
 ghost use Rattle.schemas.specs.Headings.{fieldOf};
 ghost use Rattle.schemas.specs.Tables.{fieldsOf};
 use crate::column::Column;
 use crate::tables::Schema;
+use vocabulary::texts::same_bytes;
 use vocabulary::types::DType;
 
 impl Column {
@@ -22,9 +22,10 @@ impl Column {
     pub fn is_named(&self, name: &[u8]) -> bool
         ensures { λ r. ⌜ r ≡ sameBytes (fieldOf (now (self .entry)) .name) (now (name .entry)) ⌝ }
     {
-        self.name() == name
+        same_bytes(self.name(), name)
     }
 
+    /// Its type.
     pub fn dtype(&self) -> DType
         ensures { λ r. ⌜ r ≡ fieldOf (now (self .entry)) .dtype ⌝ }
     {
@@ -40,14 +41,11 @@ impl Schema {
         self.count
     }
 
-    /// The column at that place, if there is one.
-    pub fn column(&self, place: u8) -> Option<&Column>
-        ensures { λ r. ⌜ mapped (λ c. fieldOf (now c)) r ≡ nth (fieldsOf (now (self .entry))) place ⌝ }
+    /// Its columns, in the order of their places.
+    pub fn columns(&self) -> &[Column]
+        ensures { λ r. ⌜ map fieldOf (now r) ≡ fieldsOf (now (self .entry)) ⌝ }
     {
-        if place < self.count {
-            Some(&self.columns[place as usize])
-        } else {
-            None
-        }
+        let count = self.count as usize;
+        &self.columns[0..count]
     }
 }

@@ -1,7 +1,7 @@
 ghost use mathlib.Core.Path.{_≡_};
 ghost use Prim.Native.Nat.{_≤_};
 ghost use lib.ListN.{length};
-ghost use Rattle.schemas.specs.Declarations.{takes, grown, Names-tell-columns};
+ghost use Rattle.schemas.specs.Declarations.{takes, grown};
 ghost use Rattle.schemas.specs.Fields.{field, found};
 ghost use Rattle.schemas.specs.Headings.{fieldOf};
 ghost use Rattle.schemas.specs.Tables.{fieldsOf};
@@ -36,8 +36,7 @@ impl Column {
 impl Schema {
     /// The place and the type of the column of that name.
     pub fn find(&self, name: &[u8]) -> Option<Found>
-        ensures value { λ r. ⌜ r ≡ found (now (name .entry)) (fieldsOf (now (self .entry))) ⌝ }
-        ensures law { λ _. ⌜ Names-tell-columns ⌝ }
+        ensures { λ r. ⌜ r ≡ found (now (name .entry)) (fieldsOf (now (self .entry))) ⌝ }
     {
         for i in 0..self.count {
             let column = &self.columns[i as usize];

@@ -14,6 +14,7 @@ pub struct Schema {
     pub(crate) count: u8,
     ghost few: { count ≤ 32 },
     ghost whole: { length columns ≡ 32 },
+    ghost counted: { length (map fieldOf (take count columns)) ≡ count },
     ghost sound: { declared (map fieldOf (take count columns)) ≡ true },
 }
 

@@ -1,6 +1,7 @@
 ghost use mathlib.Core.Path.{_≡_};
+ghost use Prim.Native.Nat.{_≤_};
 ghost use Rattle.std.specs.declared.option.Option.the-variants.{Some, None};
-ghost use Rattle.vocabulary.specs.Nodes.{recorded, childAt, textOf};
+ghost use Rattle.vocabulary.specs.Nodes.{padded, recorded, childAt, textOf};
 use crate::operators::*;
 use crate::types::*;
 use crate::values::*;
@@ -42,6 +43,17 @@ pub struct Node {
     pub size: u16,
 }
 
+/// The first `count` of the children, with zeros behind them.
+fn first_children(children: [u32; 8], count: u8) -> [u32; 8]
+    requires { ⌜ count ≤ 8 ⌝ }
+    ensures { λ r. ⌜ r ≡ padded children count ⌝ }
+{
+    let count = count as usize;
+    let mut kept = [0u32; 8];
+    kept[0..count].copy_from_slice(&children[0..count]);
+    kept
+}
+
 impl Node {
     /// A record over the first `child_count` of the children, at most eight, with zeros behind them.
     pub fn new(
@@ -55,12 +67,9 @@ impl Node {
         ensures { λ r. ⌜ r ≡ recorded function children «child_count» dtype depth size ⌝ }
     {
         let child_count = child_count.min(MAX_CHILDREN);
-        let count = child_count as usize;
-        let mut kept = [0u32; 8];
-        kept[0..count].copy_from_slice(&children[0..count]);
         Node {
             function,
-            children: kept,
+            children: first_children(children, child_count),
             child_count,
             dtype,
             depth,

@@ -1,6 +1,5 @@
 ghost use mathlib.Core.Path.{_≡_};
 ghost use Rattle.vocabulary.specs.Operators.{isArithmetic, isComparison, swapped, inverted, familyOf, strictAs, isStrict};
-ghost use Rattle.vocabulary.specs.Orders.{Swapping-exchanges-sides, Inverting-negates};
 
 /// What a `Binary` node does with its two operands.
 #[derive(Clone, Copy)]
@@ -94,8 +93,7 @@ impl Operator {
 
     /// The operator that gives the same answer with the operands exchanged, if there is one.
     pub fn swap(self) -> Option<Operator>
-        ensures value { λ r. ⌜ r ≡ swapped self ⌝ }
-        ensures law { λ _. ⌜ Swapping-exchanges-sides ⌝ }
+        ensures { λ r. ⌜ r ≡ swapped self ⌝ }
     {
         match self {
             Operator::Gt => Some(Operator::Lt),
@@ -109,8 +107,7 @@ impl Operator {
 
     /// The comparison that holds just where this one does not, if this is a comparison.
     pub fn inverse(self) -> Option<Operator>
-        ensures value { λ r. ⌜ r ≡ inverted self ⌝ }
-        ensures law { λ _. ⌜ Inverting-negates ⌝ }
+        ensures { λ r. ⌜ r ≡ inverted self ⌝ }
     {
         match self {
             Operator::Eq => Some(Operator::NotEq),

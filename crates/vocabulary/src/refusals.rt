@@ -1,6 +1,5 @@
 ghost use mathlib.Core.Path.{_≡_};
 ghost use Rattle.vocabulary.specs.declared.refusals.Refusal.the-variants.{Memory, Binding, Walk, Rules, Evaluation};
-ghost use Rattle.vocabulary.specs.Layers.{Numbers-tell-layers};
 ghost use Rattle.vocabulary.specs.Refusals.{numberOf, layerOf, placeOf};
 
 /// What memory refuses.
@@ -232,8 +231,7 @@ impl Refusal {
 
     /// The layer that it comes from.
     pub fn layer(self) -> Layer
-        ensures value { λ r. ⌜ r ≡ layerOf self ⌝ }
-        ensures law { λ _. ⌜ Numbers-tell-layers ⌝ }
+        ensures { λ r. ⌜ r ≡ layerOf self ⌝ }
     {
         match self {
             Refusal::Memory(_) => Layer::Memory,

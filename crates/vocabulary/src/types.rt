@@ -1,5 +1,5 @@
 ghost use mathlib.Core.Path.{_≡_};
-ghost use Rattle.vocabulary.specs.Types.{alike, typeOf, isPlain, Alike-is-one-kind};
+ghost use Rattle.vocabulary.specs.Types.{alike, typeOf, isPlain};
 
 /// What a type's values are, null apart.
 #[derive(Clone, Copy, PartialEq, Eq)]
@@ -50,8 +50,7 @@ impl DType {
 
     /// Whether both have the same kind, the number of an `Extension` or a `Row` included: whether they are alike.
     pub fn eq_ignore_nullability(self, other: DType) -> bool
-        ensures value { λ r. ⌜ r ≡ alike self other ⌝ }
-        ensures law { λ _. ⌜ Alike-is-one-kind ⌝ }
+        ensures { λ r. ⌜ r ≡ alike self other ⌝ }
     {
         other.kind == self.kind
     }

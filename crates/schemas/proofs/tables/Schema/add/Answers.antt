@@ -17,7 +17,7 @@ pub ghost-self : need.ghost-self
 ghost-self c =
     let s = c .args .self .now in
     let p = pushed s (c .new .result) _ (c .new .ensures) (c .if-not-takes .ensures tt) in
-    (omega (arith, p .room), (length-set (s .columns) _ _ ∙ s .whole, (p .sound, tt)))
+    (omega (arith, p .room), (length-set (s .columns) _ _ ∙ s .whole, (p .counted, (p .sound, tt))))
 
 pub returns : need.returns
 returns c =

@@ -1,7 +1,6 @@
 use borrow.Author.Needs.{needs}
 use native.Mathlib.Omega.{arith}
 use Rattle.schemas.proofs.Lookup.{found-step, found-end}
-use Rattle.schemas.proofs.Names.{names-tell-columns}
 use Rattle.schemas.proofs.tables.Schema.find.Needs as need
 
 pub returns-then-is-named : need.returns-then-is-named
@@ -11,7 +10,7 @@ returns-then-is-named c =
     found-step (c .args .name .now) (s .count) (s .columns) (c .loop-i .i) (c .index-self-i .result)
     (omega arith) (omega (arith, s .few, s .whole)) (c .index-self-i .is)
     in
-    record { value = search needs; law = names-tell-columns }
+    search needs
 
 pub loop-i-again : need.loop-i-again
 loop-i-again c =
@@ -23,4 +22,4 @@ loop-i-again c =
     search needs
 
 pub returns : need.returns
-returns c = record { value = search (needs, found-end); law = names-tell-columns }
+returns c = search (needs, found-end)
