@@ -13,7 +13,8 @@ use Rattle.std.specs.declared.result.Result.{Result}
 use Rattle.std.specs.declared.result.Result.the-variants.{Ok, Err}
 use Rattle.vocabulary.specs.declared.types.DType.{DType}
 use Rattle.notation.specs.declared.line.Complaint.{Complaint}
-use Rattle.notation.specs.declared.line.Complaint.the-variants.{NoSuchDirective, NameMissing, TypeMissing, NotAType, Surplus}
+use Rattle.notation.specs.declared.line.Complaint.the-variants.{NoSuchDirective, NameMissing, TypeMissing, NotAType}
+use Rattle.notation.specs.declared.line.Complaint.the-variants.{Surplus}
 use Rattle.notation.specs.declared.line.Directive.{Directive}
 use Rattle.notation.specs.declared.line.Directive.the-variants as directive
 use Rattle.notation.specs.declared.line.Line.{Line}
@@ -46,7 +47,8 @@ columnType line name rest (Some t) = columnEnd line name t (afterBlanks (afterWo
 -- behind the name stands the type
 abbrev pub columnNamed : List ℕ → List ℕ → List ℕ → Result Said Mistake
 columnNamed line name rest =
-    cond (eqb (length rest) 0) (Err (mistaken line rest TypeMissing)) (columnType line name rest (typeNamed (word rest)))
+    cond (eqb (length rest) 0) (Err (mistaken line rest TypeMissing))
+    (columnType line name rest (typeNamed (word rest)))
 
 -- behind the word `column` stands the name
 abbrev pub columnLine : List ℕ → List ℕ → Result Said Mistake

@@ -19,7 +19,8 @@ fn mistake(line: &[u8], rest: &[u8], complaint: Complaint) -> Mistake
 
 /// The rest of a `column` line from its type on.
 fn read_column_type<'a>(line: &'a [u8], name: &'a [u8], rest: &'a [u8]) -> Result<Line<'a>, Mistake>
-    ensures { λ r. ⌜ mapped said (λ e. e) r ≡ columnNamed (now (line .entry)) (now (name .entry)) (now (rest .entry)) ⌝ }
+    ensures { λ r. ⌜ mapped said (λ e. e) r
+        ≡ columnNamed (now (line .entry)) (now (name .entry)) (now (rest .entry)) ⌝ }
 {
     if rest.is_empty() {
         return Err(mistake(line, rest, Complaint::TypeMissing));

@@ -1,7 +1,8 @@
 ghost use lib.Chars.{codes};
 ghost use mathlib.Core.Path.{_≡_};
 ghost use Rattle.std.specs.Options.{mapped};
-ghost use Rattle.notation.specs.TypeNames.{withoutEnding, withoutBeginning, byteNamed, numberAfter, numberedKind, kindNamed, typeNamed};
+ghost use Rattle.notation.specs.TypeNames.{withoutEnding, withoutBeginning, byteNamed, numberAfter, numberedKind};
+ghost use Rattle.notation.specs.TypeNames.{kindNamed, typeNamed};
 use crate::naturals::read_natural;
 use vocabulary::types::DType;
 use vocabulary::types::Kind;

@@ -39,7 +39,8 @@ impl Declaring {
     /// Adds a column behind the others of its schema, and answers its place.
     pub fn add_column(&mut self, schema: u8, name: &[u8], dtype: DType) -> Result<u8, Refusal>
         ensures answer { λ r. ⌜ r ≡ added schema (field (now (name .entry)) dtype) (declaredIn (now (self .entry))) ⌝ }
-        ensures after { λ r. ⌜ declaredIn (now (self .exit)) ≡ after r schema (field (now (name .entry)) dtype) (declaredIn (now (self .entry))) ⌝ }
+        ensures after { λ r. ⌜ declaredIn (now (self .exit))
+            ≡ after r schema (field (now (name .entry)) dtype) (declaredIn (now (self .entry))) ⌝ }
     {
         self.schemas.add(schema, name, dtype)
     }

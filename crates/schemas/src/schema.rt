@@ -61,7 +61,8 @@ impl Schema {
     /// One column more, behind the others. It is false, and nothing changes, where the column is not taken.
     pub(crate) fn add(&mut self, name: &[u8], dtype: DType) -> bool
         ensures answer { λ r. ⌜ r ≡ takes (fieldsOf (now (self .entry))) (field (now (name .entry)) dtype) ⌝ }
-        ensures after { λ r. ⌜ fieldsOf (now (self .exit)) ≡ grown r (fieldsOf (now (self .entry))) (field (now (name .entry)) dtype) ⌝ }
+        ensures after { λ r. ⌜ fieldsOf (now (self .exit))
+            ≡ grown r (fieldsOf (now (self .entry))) (field (now (name .entry)) dtype) ⌝ }
     {
         if !self.takes(name, dtype) {
             return false;

@@ -32,7 +32,8 @@ fn index_of(schema: u8) -> Result<usize, MemoryRefusal>
 impl Schemas {
     /// The schema of that number, or the refusal of the number.
     fn at(&self, schema: u8) -> Result<&Schema, MemoryRefusal>
-        ensures { λ r. ⌜ mapped (λ s. fieldsOf (now s)) Memory r ≡ inSchema schema Ok (allFields (now (self .entry))) ⌝ }
+        ensures { λ r. ⌜ mapped (λ s. fieldsOf (now s)) Memory r
+            ≡ inSchema schema Ok (allFields (now (self .entry))) ⌝ }
     {
         let at = index_of(schema)?;
         Ok(&self.table[at])
@@ -40,7 +41,8 @@ impl Schemas {
 
     /// The schema of that number.
     pub fn schema(&self, schema: u8) -> Result<&Schema, Refusal>
-        ensures { λ r. ⌜ mapped (λ s. fieldsOf (now s)) (λ e. e) r ≡ inSchema schema Ok (allFields (now (self .entry))) ⌝ }
+        ensures { λ r. ⌜ mapped (λ s. fieldsOf (now s)) (λ e. e) r
+            ≡ inSchema schema Ok (allFields (now (self .entry))) ⌝ }
     {
         let found = self.at(schema)?;
         Ok(found)
@@ -57,7 +59,8 @@ impl Schemas {
     /// Adds a column behind the others of its schema, and answers its place.
     pub(crate) fn add(&mut self, schema: u8, name: &[u8], dtype: DType) -> Result<u8, Refusal>
         ensures answer { λ r. ⌜ r ≡ added schema (field (now (name .entry)) dtype) (allFields (now (self .entry))) ⌝ }
-        ensures after { λ r. ⌜ allFields (now (self .exit)) ≡ after r schema (field (now (name .entry)) dtype) (allFields (now (self .entry))) ⌝ }
+        ensures after { λ r. ⌜ allFields (now (self .exit))
+            ≡ after r schema (field (now (name .entry)) dtype) (allFields (now (self .entry))) ⌝ }
     {
         let at = index_of(schema)?;
         let target = &mut self.table[at];

@@ -5,11 +5,15 @@ use Prim.Native.Nat.{_-_, _≤_}
 use lib.Dec.{lit≤}
 use Rattle.std.specs.Runs.{nth}
 use Rattle.std.specs.declared.option.Option.the-variants.{Some}
-use Rattle.vocabulary.specs.declared.refusals.MemoryRefusal.the-variants.{OutsideLimits, NoHeap, NoSuchNode, NoSuchSchema, RecordsFull, TextFull, WorkShort}
-use Rattle.vocabulary.specs.declared.refusals.BindingRefusal.the-variants.{BadColumn, NoSuchCode, WrongChildCount, DoesNotBind, TooDeep, TooLarge}
+use Rattle.vocabulary.specs.declared.refusals.MemoryRefusal.the-variants.{OutsideLimits, NoHeap, NoSuchNode}
+use Rattle.vocabulary.specs.declared.refusals.MemoryRefusal.the-variants.{NoSuchSchema, RecordsFull, TextFull}
+use Rattle.vocabulary.specs.declared.refusals.MemoryRefusal.the-variants.{WorkShort}
+use Rattle.vocabulary.specs.declared.refusals.BindingRefusal.the-variants.{BadColumn, NoSuchCode, WrongChildCount}
+use Rattle.vocabulary.specs.declared.refusals.BindingRefusal.the-variants.{DoesNotBind, TooDeep, TooLarge}
 use Rattle.vocabulary.specs.declared.refusals.WalkRefusal.the-variants.{TooLong, VisitorFault}
 use Rattle.vocabulary.specs.declared.refusals.RulesRefusal.the-variants.{TooManyRounds}
-use Rattle.vocabulary.specs.declared.refusals.EvaluationRefusal.the-variants.{OtherSchema, UnfitValue, Arithmetic, UnlikeTypes, HostFault}
+use Rattle.vocabulary.specs.declared.refusals.EvaluationRefusal.the-variants.{OtherSchema, UnfitValue, Arithmetic}
+use Rattle.vocabulary.specs.declared.refusals.EvaluationRefusal.the-variants.{UnlikeTypes, HostFault}
 use Rattle.vocabulary.specs.declared.refusals.Refusal.{Refusal}
 use Rattle.vocabulary.specs.declared.refusals.Refusal.the-variants.{Memory, Binding, Walk, Rules, Evaluation}
 use Rattle.vocabulary.specs.Layers.{layers, Numbers-tell-layers}

@@ -3,7 +3,8 @@ use mathlib.Core.Bool.{Bool, true, false}
 use Rattle.std.specs.declared.option.Option.{Option}
 use Rattle.std.specs.declared.option.Option.the-variants.{Some, None}
 use Rattle.vocabulary.specs.declared.operators.Operator.{Operator}
-use Rattle.vocabulary.specs.declared.operators.Operator.the-variants.{Eq, NotEq, Gt, Gte, Lt, Lte, And, Or, Add, Sub, Mul, Div}
+use Rattle.vocabulary.specs.declared.operators.Operator.the-variants.{Eq, NotEq, Gt, Gte, Lt, Lte, And, Or, Add, Sub}
+use Rattle.vocabulary.specs.declared.operators.Operator.the-variants.{Mul, Div}
 use Rattle.vocabulary.specs.declared.operators.CompareOperator.the-variants as compare
 use Rattle.vocabulary.specs.declared.operators.Connective.the-variants as connective
 use Rattle.vocabulary.specs.declared.operators.Arithmetic.the-variants as arithmetic

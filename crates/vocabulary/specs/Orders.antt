@@ -59,4 +59,5 @@ abbrev pub Inverting-negates : Type 0
 Inverting-negates =
     (o : Operator)
     → (isSome (inverted o) ≡ isComparison o)
-    × ((p : Operator) → inverted o ≡ Some p → ((x : Ordering) → holds p x ≡ negated (holds o x)) × (inverted p ≡ Some o))
+    × ((p : Operator) → inverted o ≡ Some p
+    → ((x : Ordering) → holds p x ≡ negated (holds o x)) × (inverted p ≡ Some o))

@@ -2,21 +2,26 @@
 use mathlib.Core.List.{List}
 use Prim.Native.Nat.{ℕ}
 use Rattle.vocabulary.specs.declared.refusals.MemoryRefusal.{MemoryRefusal}
-use Rattle.vocabulary.specs.declared.refusals.MemoryRefusal.the-variants.{OutsideLimits, NoHeap, NoSuchNode, NoSuchSchema, RecordsFull, TextFull, WorkShort}
+use Rattle.vocabulary.specs.declared.refusals.MemoryRefusal.the-variants.{OutsideLimits, NoHeap, NoSuchNode}
+use Rattle.vocabulary.specs.declared.refusals.MemoryRefusal.the-variants.{NoSuchSchema, RecordsFull, TextFull}
+use Rattle.vocabulary.specs.declared.refusals.MemoryRefusal.the-variants.{WorkShort}
 use Rattle.vocabulary.specs.declared.refusals.BindingRefusal.{BindingRefusal}
-use Rattle.vocabulary.specs.declared.refusals.BindingRefusal.the-variants.{BadColumn, NoSuchCode, WrongChildCount, DoesNotBind, TooDeep, TooLarge}
+use Rattle.vocabulary.specs.declared.refusals.BindingRefusal.the-variants.{BadColumn, NoSuchCode, WrongChildCount}
+use Rattle.vocabulary.specs.declared.refusals.BindingRefusal.the-variants.{DoesNotBind, TooDeep, TooLarge}
 use Rattle.vocabulary.specs.declared.refusals.WalkRefusal.{WalkRefusal}
 use Rattle.vocabulary.specs.declared.refusals.WalkRefusal.the-variants.{TooLong, VisitorFault}
 use Rattle.vocabulary.specs.declared.refusals.RulesRefusal.{RulesRefusal}
 use Rattle.vocabulary.specs.declared.refusals.RulesRefusal.the-variants.{TooManyRounds}
 use Rattle.vocabulary.specs.declared.refusals.EvaluationRefusal.{EvaluationRefusal}
-use Rattle.vocabulary.specs.declared.refusals.EvaluationRefusal.the-variants.{OtherSchema, UnfitValue, Arithmetic, UnlikeTypes, HostFault}
+use Rattle.vocabulary.specs.declared.refusals.EvaluationRefusal.the-variants.{OtherSchema, UnfitValue, Arithmetic}
+use Rattle.vocabulary.specs.declared.refusals.EvaluationRefusal.the-variants.{UnlikeTypes, HostFault}
 use Rattle.vocabulary.specs.declared.refusals.Refusal.{Refusal}
 use Rattle.vocabulary.specs.declared.refusals.Refusal.the-variants.{Memory, Binding, Walk, Rules, Evaluation}
 use Rattle.vocabulary.specs.declared.refusals.Layer.{Layer}
 use Rattle.vocabulary.specs.declared.refusals.Layer.the-variants as layer
 use Rattle.vocabulary.specs.declared.refusals.Place.{Place}
-use Rattle.vocabulary.specs.declared.refusals.Place.the-variants.{Nothing, SchemaColumn, Asked, Node, Column, NodeCode}
+use Rattle.vocabulary.specs.declared.refusals.Place.the-variants.{Nothing, SchemaColumn, Asked, Node, Column}
+use Rattle.vocabulary.specs.declared.refusals.Place.the-variants.{NodeCode}
 
 abbrev pub numberOf : Refusal → ℕ
 numberOf (Memory OutsideLimits) = 1

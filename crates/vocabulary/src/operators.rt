@@ -1,5 +1,6 @@
 ghost use mathlib.Core.Path.{_≡_};
-ghost use Rattle.vocabulary.specs.Operators.{isArithmetic, isComparison, swapped, inverted, familyOf, strictAs, isStrict};
+ghost use Rattle.vocabulary.specs.Operators.{isArithmetic, isComparison, swapped, inverted, familyOf, strictAs};
+ghost use Rattle.vocabulary.specs.Operators.{isStrict};
 
 /// What a `Binary` node does with its two operands.
 #[derive(Clone, Copy)]

@@ -34,7 +34,8 @@ returns c =
     let known = numbered-ok schema at number in
     record {
       answer =
-          placed-granted schema (c .len-column .result) field _ (c .len-column .ensures) (c .if-not-add .ensures tt .answer)
+          placed-granted schema (c .len-column .result) field _
+          (c .len-column .ensures) (c .if-not-add .ensures tt .answer)
           ∙ answered schema at (placed schema field) table here number (omega arith);
       after =
           rw (sym (known .0))

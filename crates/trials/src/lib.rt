@@ -1,0 +1,3 @@
+//! Examples of what the library answers, run as tests.
+#[cfg(test)]
+mod declaring;
