@@ -1,0 +1,11 @@
+pub mod Outcomes
+pub mod Lists
+pub mod Values
+pub mod Kleene
+pub mod Comparing
+pub mod Computing
+pub mod Hosts
+pub mod Lawful
+pub mod Trees
+pub mod Columns
+pub mod Typing
