@@ -9,3 +9,9 @@ pub mod Lawful
 pub mod Trees
 pub mod Columns
 pub mod Typing
+pub mod Evaluating
+pub mod Rows
+pub mod Places
+pub mod Literals
+pub mod Rules
+pub mod Optimizing
