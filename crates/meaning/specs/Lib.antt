@@ -15,3 +15,6 @@ pub mod Places
 pub mod Literals
 pub mod Rules
 pub mod Optimizing
+pub mod Conjuncts
+pub mod Ranges
+pub mod Fusing
