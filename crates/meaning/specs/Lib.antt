@@ -18,3 +18,13 @@ pub mod Optimizing
 pub mod Conjuncts
 pub mod Ranges
 pub mod Fusing
+pub mod LawsOfValues
+pub mod LawsOfHosts
+pub mod LawsOfEvaluating
+pub mod Infallible
+pub mod LawsOfRules
+pub mod LawsOfOptimizing
+pub mod LawsOfFusing
+pub mod LawsOfSizes
+pub mod Standard
+pub mod WorkedCases
