@@ -12,7 +12,8 @@ use Rattle.meaning.specs.Kleene.{kleene}
 use Rattle.meaning.specs.Comparing.{compares, lies-between}
 use Rattle.meaning.specs.Computing.{computes}
 use Rattle.meaning.specs.Hosts.{Meaning, host-value}
-use Rattle.meaning.specs.Trees.{Fn, root, literal, get-item, cast, compare, compute, between, call, Expr, logic, node, Exprs, nil, cons}
+use Rattle.meaning.specs.Trees.{Fn, root, literal, get-item, cast, compare, compute, between, call}
+use Rattle.meaning.specs.Trees.{Expr, logic, node, Exprs, nil, cons}
 use Rattle.meaning.specs.Columns.{Schemas, column-type}
 
 -- an environment: the value of each column, by schema and name

@@ -12,7 +12,8 @@ use Rattle.meaning.specs.Lists.{of-two}
 use Rattle.meaning.specs.Values.{Value, all-fit}
 use Rattle.meaning.specs.Hosts.{Meaning, host-value, host-type}
 use Rattle.meaning.specs.Lawful.{Lawful}
-use Rattle.meaning.specs.Trees.{Fn, root, literal, get-item, cast, compare, compute, between, call, Expr, logic, node, Exprs, nil, cons}
+use Rattle.meaning.specs.Trees.{Fn, root, literal, get-item, cast, compare, compute, between, call}
+use Rattle.meaning.specs.Trees.{Expr, logic, node, Exprs, nil, cons}
 use Rattle.meaning.specs.Columns.{Schemas, Columns-plain}
 use Rattle.meaning.specs.Typing.{typed, typed-all}
 use Rattle.meaning.specs.Evaluating.{Env, Env-fits, eval}

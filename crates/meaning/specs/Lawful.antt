@@ -12,7 +12,8 @@ use Rattle.vocabulary.specs.Types.{plainKind}
 use Rattle.meaning.specs.Outcomes.{value, settled, and-then}
 use Rattle.meaning.specs.Lists.{nth, picks}
 use Rattle.meaning.specs.Values.{Value, fits, all-fit}
-use Rattle.meaning.specs.Hosts.{constant-value, argument, Answer, nothing, child, constant, other, Meaning, host-value, host-type}
+use Rattle.meaning.specs.Hosts.{constant-value, argument, Answer, nothing, child, constant, other}
+use Rattle.meaning.specs.Hosts.{Meaning, host-value, host-type}
 
 -- the arguments' values agree with the literals that were seen
 abbrev pub Agree : List (Option Value) → List Value → Type 0

@@ -1,7 +1,6 @@
 -- Fusing keeps type and value, leaves no pair, and merges the pairs in their order.
 use mathlib.Core.Path.{_≡_}
 use mathlib.Core.List.{List, [], _∷_, _++_}
-use Prim.Native.Nat.{ℕ}
 use Rattle.std.specs.declared.option.Option.{Option}
 use Rattle.std.specs.declared.option.Option.the-variants.{Some, None}
 use Rattle.vocabulary.specs.declared.operators.Connective.the-variants.{And, Or}

@@ -13,11 +13,10 @@ use Rattle.vocabulary.specs.declared.refusals.BindingRefusal.the-variants.{Does
 use Rattle.vocabulary.specs.declared.refusals.EvaluationRefusal.the-variants.{Arithmetic, UnlikeTypes, HostFault}
 use Rattle.vocabulary.specs.declared.refusals.Refusal.the-variants.{Binding, Evaluation}
 use Rattle.vocabulary.specs.Refusals.{numberOf}
-use Rattle.meaning.specs.Outcomes.{arithmetic, unlike, host, malformed, number-of, value}
-use Rattle.meaning.specs.Values.{Value, bool, signed, unsigned, text, ext, is-null}
+use Rattle.meaning.specs.Outcomes.{arithmetic, unlike, host, malformed, number-of}
+use Rattle.meaning.specs.Values.{Value, bool, signed, unsigned, text, ext}
 use Rattle.meaning.specs.Kleene.{kleene-table, lut, decides, deciding, truth, of-truth, kleene}
 use Rattle.meaning.specs.Comparing.{bytes-below, below, compares, swap}
-use Rattle.meaning.specs.Computing.{computes}
 
 -- And and Or commute
 abbrev pub Kleene-commutes : Type 0

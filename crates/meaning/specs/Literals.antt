@@ -1,11 +1,12 @@
 -- Literals, and what the rules see of them.
 use mathlib.Core.List.{List, [], _∷_}
-use mathlib.Core.Bool.{Bool, true, false, _||_}
+use mathlib.Core.Bool.{Bool, false, _||_}
 use Rattle.std.specs.declared.option.Option.{Option}
 use Rattle.std.specs.declared.option.Option.the-variants.{Some, None}
 use Rattle.vocabulary.specs.declared.types.DType.{DType}
 use Rattle.meaning.specs.Values.{Value, null, bool, signed, unsigned, text, ext, whole, is-null}
-use Rattle.meaning.specs.Trees.{Fn, root, literal, get-item, cast, compare, compute, between, call, Expr, logic, node, Exprs, nil, cons}
+use Rattle.meaning.specs.Trees.{Fn, root, literal, get-item, cast, compare, compute, between, call}
+use Rattle.meaning.specs.Trees.{Expr, logic, node, Exprs, nil, cons}
 
 -- a literal of that type
 abbrev pub lit : DType → Value → Expr

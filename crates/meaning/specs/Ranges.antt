@@ -13,7 +13,8 @@ use Rattle.vocabulary.specs.declared.operators.StrictComparison.the-variants.{S
 use Rattle.meaning.specs.Outcomes.{and-then}
 use Rattle.meaning.specs.Values.{Value}
 use Rattle.meaning.specs.Comparing.{swap}
-use Rattle.meaning.specs.Trees.{Fn, root, literal, get-item, cast, compare, compute, between, call, Expr, logic, node, Exprs, nil, cons}
+use Rattle.meaning.specs.Trees.{Fn, root, literal, get-item, cast, compare, compute, between, call}
+use Rattle.meaning.specs.Trees.{Expr, logic, node, Exprs, nil, cons}
 
 -- a column: a GetItem of a Root
 pub record Column : Type 0 where

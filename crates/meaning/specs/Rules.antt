@@ -11,10 +11,12 @@ use Rattle.meaning.specs.Outcomes.{and-then}
 use Rattle.meaning.specs.Values.{Value, null, bool, boolean}
 use Rattle.meaning.specs.Kleene.{lut, decides, deciding}
 use Rattle.meaning.specs.Hosts.{Answer, nothing, child, constant, other, constant-value, Meaning}
-use Rattle.meaning.specs.Trees.{Fn, root, literal, get-item, cast, compare, compute, between, call, Expr, logic, node, Exprs, nil, cons, nth-child}
+use Rattle.meaning.specs.Trees.{Fn, root, literal, get-item, cast, compare, compute, between, call}
+use Rattle.meaning.specs.Trees.{Expr, logic, node, Exprs, nil, cons, nth-child}
 use Rattle.meaning.specs.Columns.{Schemas}
 use Rattle.meaning.specs.Typing.{typed, typed-all}
-use Rattle.meaning.specs.Literals.{lit, literal-of, literals-of, has-null-literal, Seen, sees-truth, sees-null, sees-other, seen}
+use Rattle.meaning.specs.Literals.{lit, literal-of, literals-of, has-null-literal}
+use Rattle.meaning.specs.Literals.{Seen, sees-truth, sees-null, sees-other, seen}
 
 -- whether a type is nullable
 abbrev pub nullable-of : Option DType → Bool

@@ -1,6 +1,6 @@
 -- Truth tables and predicates as ISO SQL words them, and that the definitions say the same.
 use mathlib.Core.Path.{_≡_}
-use mathlib.Core.Bool.{Bool, true, false}
+use mathlib.Core.Bool.{true, false}
 use Prim.Native.Nat.{ℕ}
 use lib.IntN.{ℤ}
 use Rattle.vocabulary.specs.declared.operators.Arithmetic.{Arithmetic}

@@ -12,7 +12,8 @@ use Rattle.meaning.specs.Outcomes.{and-then}
 use Rattle.meaning.specs.Lists.{of-none, of-one, of-two, of-three}
 use Rattle.meaning.specs.Values.{boolean, fits}
 use Rattle.meaning.specs.Hosts.{Meaning, host-type}
-use Rattle.meaning.specs.Trees.{Fn, root, literal, get-item, cast, compare, compute, between, call, Expr, logic, node, Exprs, nil, cons}
+use Rattle.meaning.specs.Trees.{Fn, root, literal, get-item, cast, compare, compute, between, call}
+use Rattle.meaning.specs.Trees.{Expr, logic, node, Exprs, nil, cons}
 use Rattle.meaning.specs.Columns.{Schemas, column-type}
 
 -- an Extension's kind

@@ -1,6 +1,6 @@
 -- Worked cases, on a schema of x (I64), b (Bool) and t (Extension 1).
 use mathlib.Core.Path.{_≡_}
-use mathlib.Core.List.{List, [], _∷_}
+use mathlib.Core.List.{[], _∷_}
 use mathlib.Core.Bool.{Bool, true, false}
 use Prim.Native.Nat.{ℕ, zero, suc}
 use lib.Chars.{codes}
@@ -15,7 +15,7 @@ use Rattle.vocabulary.specs.declared.operators.Operator.the-variants.{Eq, Gt, L
 use Rattle.vocabulary.specs.declared.operators.StrictComparison.{StrictComparison}
 use Rattle.vocabulary.specs.declared.operators.StrictComparison.the-variants.{Strict, NonStrict}
 use Rattle.meaning.specs.Outcomes.{arithmetic, number-of, value, fault}
-use Rattle.meaning.specs.Values.{Value, null, bool, signed, ext, boolean}
+use Rattle.meaning.specs.Values.{null, bool, signed, ext, boolean}
 use Rattle.meaning.specs.Kleene.{kleene}
 use Rattle.meaning.specs.Comparing.{lies-between}
 use Rattle.meaning.specs.Hosts.{Meaning}
