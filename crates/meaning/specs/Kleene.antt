@@ -8,24 +8,24 @@ use Rattle.meaning.specs.Values.{Value, null, bool, signed, unsigned, text, ex
 
 -- the truth tables; None is unknown
 abbrev pub kleene-table : Connective → Option Bool → Option Bool → Option Bool
-kleene-table And (Some true)  (Some true)  = Some true
-kleene-table And (Some true)  (Some false) = Some false
-kleene-table And (Some true)  None         = None
-kleene-table And (Some false) (Some true)  = Some false
+kleene-table And (Some true) (Some true) = Some true
+kleene-table And (Some true) (Some false) = Some false
+kleene-table And (Some true) None = None
+kleene-table And (Some false) (Some true) = Some false
 kleene-table And (Some false) (Some false) = Some false
-kleene-table And (Some false) None         = Some false
-kleene-table And None         (Some true)  = None
-kleene-table And None         (Some false) = Some false
-kleene-table And None         None         = None
-kleene-table Or  (Some true)  (Some true)  = Some true
-kleene-table Or  (Some true)  (Some false) = Some true
-kleene-table Or  (Some true)  None         = Some true
-kleene-table Or  (Some false) (Some true)  = Some true
-kleene-table Or  (Some false) (Some false) = Some false
-kleene-table Or  (Some false) None         = None
-kleene-table Or  None         (Some true)  = Some true
-kleene-table Or  None         (Some false) = None
-kleene-table Or  None         None         = None
+kleene-table And (Some false) None = Some false
+kleene-table And None (Some true) = None
+kleene-table And None (Some false) = Some false
+kleene-table And None None = None
+kleene-table Or (Some true) (Some true) = Some true
+kleene-table Or (Some true) (Some false) = Some true
+kleene-table Or (Some true) None = Some true
+kleene-table Or (Some false) (Some true) = Some true
+kleene-table Or (Some false) (Some false) = Some false
+kleene-table Or (Some false) None = None
+kleene-table Or None (Some true) = Some true
+kleene-table Or None (Some false) = None
+kleene-table Or None None = None
 
 -- the half of the tables where both are known
 abbrev pub lut : Connective → Bool → Bool → Bool

@@ -62,17 +62,17 @@ pub record Lawful (m : Meaning) : Type 0 where
   pub no-row : (c : ℕ) (ts : List DType) (t : DType) → host-type m c ts ≡ Some t → plainKind (t .kind) ≡ true
   -- a value fits the call's type
   pub fit :
-    (c : ℕ) (ts : List DType) (t : DType) (vs : List Value) (v : Value)
-    → host-type m c ts ≡ Some t → all-fit vs ts ≡ true → host-value m c vs ≡ value v → fits v t ≡ true
+      (c : ℕ) (ts : List DType) (t : DType) (vs : List Value) (v : Value)
+      → host-type m c ts ≡ Some t → all-fit vs ts ≡ true → host-value m c vs ≡ value v → fits v t ≡ true
   -- a rule's answer binds, to the same type
   pub rule-type :
-    (c : ℕ) (ts : List DType) (t : DType) (ls : List (Option Value))
-    → host-type m c ts ≡ Some t → answer-type m t ts (m .rule c ts ls) ≡ Some t
+      (c : ℕ) (ts : List DType) (t : DType) (ls : List (Option Value))
+      → host-type m c ts ≡ Some t → answer-type m t ts (m .rule c ts ls) ≡ Some t
   -- a rule's answer has the same value wherever the call has one
   pub rule-value :
-    (c : ℕ) (ts : List DType) (t : DType) (ls : List (Option Value)) (vs : List Value) (v : Value)
-    → host-type m c ts ≡ Some t → all-fit vs ts ≡ true → Agree ls vs → host-value m c vs ≡ value v
-    → answer-value m c vs (m .rule c ts ls) ≡ Some v
+      (c : ℕ) (ts : List DType) (t : DType) (ls : List (Option Value)) (vs : List Value) (v : Value)
+      → host-type m c ts ≡ Some t → all-fit vs ts ≡ true → Agree ls vs → host-value m c vs ≡ value v
+      → answer-value m c vs (m .rule c ts ls) ≡ Some v
 
 -- a host that replies an argument names one that is there
 abbrev pub Names-arguments : Meaning → Type 0

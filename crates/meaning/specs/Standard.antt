@@ -28,26 +28,26 @@ pub data Truth : Type 0 where
 
 -- the truth table of AND
 abbrev pub sql-and : Truth → Truth → Truth
-sql-and True    True    = True
-sql-and True    False   = False
-sql-and True    Unknown = Unknown
-sql-and False   True    = False
-sql-and False   False   = False
-sql-and False   Unknown = False
-sql-and Unknown True    = Unknown
-sql-and Unknown False   = False
+sql-and True True = True
+sql-and True False = False
+sql-and True Unknown = Unknown
+sql-and False True = False
+sql-and False False = False
+sql-and False Unknown = False
+sql-and Unknown True = Unknown
+sql-and Unknown False = False
 sql-and Unknown Unknown = Unknown
 
 -- the truth table of OR
 abbrev pub sql-or : Truth → Truth → Truth
-sql-or True    True    = True
-sql-or True    False   = True
-sql-or True    Unknown = True
-sql-or False   True    = True
-sql-or False   False   = False
-sql-or False   Unknown = Unknown
-sql-or Unknown True    = True
-sql-or Unknown False   = Unknown
+sql-or True True = True
+sql-or True False = True
+sql-or True Unknown = True
+sql-or False True = True
+sql-or False False = False
+sql-or False Unknown = Unknown
+sql-or Unknown True = True
+sql-or Unknown False = Unknown
 sql-or Unknown Unknown = Unknown
 
 -- a truth value as a value of the type Bool: unknown is null

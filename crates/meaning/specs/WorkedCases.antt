@@ -84,41 +84,41 @@ trues (suc n) e = binary And (yes false) (trues n e)
 pub record Cases (m : Meaning) (r : Env) : Type 0 where
   -- x > 1 AND x < 5
   pub range-pair-fuses :
-    find-between m sample (binary And (binary Gt x (number 1)) (binary Lt x (number 5)))
-    ≡ between-node (both Strict) x (number 1) (number 5)
+      find-between m sample (binary And (binary Gt x (number 1)) (binary Lt x (number 5)))
+      ≡ between-node (both Strict) x (number 1) (number 5)
   -- 5 > x AND x > 1
   pub swapped-pair-fuses-alike :
-    find-between m sample (binary And (binary Gt (number 5) x) (binary Gt x (number 1)))
-    ≡ between-node (both Strict) x (number 1) (number 5)
+      find-between m sample (binary And (binary Gt (number 5) x) (binary Gt x (number 1)))
+      ≡ between-node (both Strict) x (number 1) (number 5)
   -- x > 1 AND (b AND x < 5)
   pub nested-pair-fuses :
-    find-between m sample (binary And (binary Gt x (number 1)) (binary And b (binary Lt x (number 5))))
-    ≡ binary And (between-node (both Strict) x (number 1) (number 5)) b
+      find-between m sample (binary And (binary Gt x (number 1)) (binary And b (binary Lt x (number 5))))
+      ≡ binary And (between-node (both Strict) x (number 1) (number 5)) b
   -- x > 1 AND x > 0
   pub two-lower-bounds-stay :
-    find-between m sample (binary And (binary Gt x (number 1)) (binary Gt x (number 0)))
-    ≡ binary And (binary Gt x (number 1)) (binary Gt x (number 0))
+      find-between m sample (binary And (binary Gt x (number 1)) (binary Gt x (number 0)))
+      ≡ binary And (binary Gt x (number 1)) (binary Gt x (number 0))
   -- t > 4 AND t < 9, the bounds of two Extensions
   pub unlike-bounds-stay :
-    find-between m sample (binary And (binary Gt t (stamp 1 4)) (binary Lt t (stamp 2 9)))
-    ≡ binary And (binary Gt t (stamp 1 4)) (binary Lt t (stamp 2 9))
+      find-between m sample (binary And (binary Gt t (stamp 1 4)) (binary Lt t (stamp 2 9)))
+      ≡ binary And (binary Gt t (stamp 1 4)) (binary Lt t (stamp 2 9))
   -- x = NULL
   pub comparison-with-null-becomes-null :
-    optimize m sample 256 (binary Eq x (lit (record { kind = kind.I64; nullable = true }) null))
-    ≡ Some (lit (boolean true) null)
+      optimize m sample 256 (binary Eq x (lit (record { kind = kind.I64; nullable = true }) null))
+      ≡ Some (lit (boolean true) null)
   pub null-and-false-is-false : kleene connective.And null (bool false) ≡ bool false
   pub null-or-true-is-true : kleene connective.Or null (bool true) ≡ bool true
   pub null-and-true-is-null : kleene connective.And null (bool true) ≡ null
   -- 10 BETWEEN NULL AND 5
   pub null-bound-leaves-false :
-    lies-between (both NonStrict) (signed (pos 10)) null (signed (pos 5)) ≡ value (bool false)
+      lies-between (both NonStrict) (signed (pos 10)) null (signed (pos 5)) ≡ value (bool false)
   -- 3 BETWEEN NULL AND 5
   pub null-bound-leaves-null :
-    lies-between (both NonStrict) (signed (pos 3)) null (signed (pos 5)) ≡ value null
+      lies-between (both NonStrict) (signed (pos 3)) null (signed (pos 5)) ≡ value null
   -- true AND (true AND b), the inner literal nullable
   pub less-nullable-operand-is-cast :
-    optimize m sample 256 (binary And (yes false) (binary And (yes true) b))
-    ≡ Some (node (cast (boolean true)) (cons b nil))
+      optimize m sample 256 (binary And (yes false) (binary And (yes true) b))
+      ≡ Some (node (cast (boolean true)) (cons b nil))
   -- false AND (1 / 0 = 1)
   pub false-drops-a-fault : optimize m sample 256 (binary And no faulty) ≡ Some no
   pub unoptimized-it-faults : eval m r (binary And no faulty) ≡ fault arithmetic
