@@ -1,0 +1,4 @@
+pub mod Adding
+pub mod Lookup
+pub mod Names
+pub mod Reading

@@ -1,8 +1,8 @@
 -- Which columns a schema takes.
 use mathlib.Core.Path.{_≡_}
 use mathlib.Core.List.{List, [], _∷_, _++_}
-use mathlib.Core.Bool.{Bool, true, not, _&&_}
-use Prim.Native.Nat.{ℕ, _<_}
+use mathlib.Core.Bool.{Bool, true, cond, not, _&&_}
+use Prim.Native.Nat.{ℕ, _<_, _≤_}
 use lib.Dec.{leb, ltb}
 use lib.ListN.{length, getD}
 use Rattle.std.specs.Options.{isSome}
@@ -19,6 +19,10 @@ abbrev pub takes : List Field → Field → Bool
 takes fs f =
     goodName (f .name) && (isPlain (f .dtype) && (ltb (length fs) 32 && not (isSome (found (f .name) fs))))
 
+-- the columns with one more behind them, where it is taken
+abbrev pub grown : Bool → List Field → Field → List Field
+grown taken fs f = cond taken (fs ++ (f ∷ [])) fs
+
 -- each column is taken by those before it
 abbrev pub declaredAfter : List Field → List Field → Bool
 declaredAfter before [] = true
@@ -33,5 +37,6 @@ abbrev pub Names-tell-columns : Type 0
 Names-tell-columns =
     (fs : List Field)
     → declared fs ≡ true
-    → leb (length fs) 32 ≡ true
-    × ((i : ℕ) (f : Field) → i < length fs → found (getD fs i f .name) fs ≡ Some (record { place = i; dtype = getD fs i f .dtype }))
+    → (length fs ≤ 32)
+    × ((i : ℕ) (d : Field) → i < length fs
+    → found (getD fs i d .name) fs ≡ Some (record { place = i; dtype = getD fs i d .dtype }))

@@ -1,3 +1,4 @@
+pub mod AllSchemas
 pub mod Declarations
 pub mod Fields
 pub mod Headings

@@ -16,3 +16,9 @@ pub struct Schema {
     ghost whole: { length columns ≡ 32 },
     ghost sound: { declared (map fieldOf (take count columns)) ≡ true },
 }
+
+/// The eight schemas, as they stand once declaring has ended.
+#[derive(Clone, Copy)]
+pub struct Schemas {
+    pub(crate) table: [Schema; 8],
+}

@@ -1,7 +1,9 @@
 -- Kinds and types.
+use mathlib.Core.Path.{_≡_}
 use mathlib.Core.Bool.{Bool, true, false, _&&_}
 use Prim.Native.Nat.{ℕ}
 use lib.Dec.{eqb, leb}
+use Rattle.std.specs.Orderings.{Decides}
 use Rattle.vocabulary.specs.declared.types.Kind.{Kind}
 use Rattle.vocabulary.specs.declared.types.Kind.the-variants as k
 use Rattle.vocabulary.specs.declared.types.DType.{DType}
@@ -31,6 +33,10 @@ sameKind a b = eqb (caseOf a) (caseOf b) && eqb (carried a) (carried b)
 -- types are alike when their kinds are the same
 abbrev pub alike : DType → DType → Bool
 alike t u = sameKind (t .kind) (u .kind)
+
+-- alike are just the types of one kind
+abbrev pub Alike-is-one-kind : Type 0
+Alike-is-one-kind = (t u : DType) → Decides (alike t u) (t .kind ≡ u .kind)
 
 -- a Row is never nullable
 abbrev pub mayBeNull : Kind → Bool

@@ -1,5 +1,6 @@
 ghost use mathlib.Core.Path.{_≡_};
 ghost use Rattle.vocabulary.specs.declared.refusals.Refusal.the-variants.{Memory, Binding, Walk, Rules, Evaluation};
+ghost use Rattle.vocabulary.specs.Layers.{Numbers-tell-layers};
 ghost use Rattle.vocabulary.specs.Refusals.{numberOf, layerOf, placeOf};
 
 /// What memory refuses.
@@ -229,8 +230,10 @@ impl Refusal {
         }
     }
 
+    /// The layer that it comes from.
     pub fn layer(self) -> Layer
-        ensures { λ r. ⌜ r ≡ layerOf self ⌝ }
+        ensures value { λ r. ⌜ r ≡ layerOf self ⌝ }
+        ensures law { λ _. ⌜ Numbers-tell-layers ⌝ }
     {
         match self {
             Refusal::Memory(_) => Layer::Memory,

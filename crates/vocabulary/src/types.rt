@@ -1,5 +1,5 @@
 ghost use mathlib.Core.Path.{_≡_};
-ghost use Rattle.vocabulary.specs.Types.{alike, typeOf, isPlain};
+ghost use Rattle.vocabulary.specs.Types.{alike, typeOf, isPlain, Alike-is-one-kind};
 
 /// What a type's values are, null apart.
 #[derive(Clone, Copy, PartialEq, Eq)]
@@ -50,7 +50,8 @@ impl DType {
 
     /// Whether both have the same kind, the number of an `Extension` or a `Row` included: whether they are alike.
     pub fn eq_ignore_nullability(self, other: DType) -> bool
-        ensures { λ r. ⌜ r ≡ alike self other ⌝ }
+        ensures value { λ r. ⌜ r ≡ alike self other ⌝ }
+        ensures law { λ _. ⌜ Alike-is-one-kind ⌝ }
     {
         self.kind == other.kind
     }

@@ -1,0 +1,4 @@
+pub mod Lines
+pub mod Naturals
+pub mod TypeNames
+pub mod Words
