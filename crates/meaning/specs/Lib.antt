@@ -28,3 +28,4 @@ pub mod LawsOfFusing
 pub mod LawsOfSizes
 pub mod Standard
 pub mod WorkedCases
+pub mod HostCode

@@ -1,2 +1,3 @@
 //! What expression trees mean: values and three-valued logic, typing and evaluation, the rules and the
 //! fusing of range comparisons. The definitions and the laws stand in specs/.
+pub mod answers;
