@@ -29,3 +29,4 @@ pub mod LawsOfSizes
 pub mod Standard
 pub mod WorkedCases
 pub mod HostCode
+pub mod NoFunctions
