@@ -63,7 +63,7 @@ impl RuleAnswer {
         }
     }
 
-    /// The child at that place takes the call's stead.
+    /// The child at that place replaces the call.
     pub fn child(place: u8) -> RuleAnswer
         ensures { λ r. ⌜ answerOf r ≡ Answer.child place ⌝ }
     {
@@ -76,7 +76,7 @@ impl RuleAnswer {
         }
     }
 
-    /// A literal of the call's type takes its stead.
+    /// A literal of that value, of the call's type, replaces the call.
     pub fn constant(value: Constant) -> RuleAnswer
         ensures { λ r. ⌜ answerOf r ≡ Answer.constant (constantOf value) ⌝ }
     {
@@ -89,7 +89,7 @@ impl RuleAnswer {
         }
     }
 
-    /// A call of another function of the host takes its stead, over the children at the first `count` places.
+    /// A call of that function of the host, over the children at the first `count` places, replaces the call.
     pub fn other(code: u16, places: [u8; 8], count: u8) -> RuleAnswer
         ensures { λ r. ⌜ answerOf r ≡ Answer.other code (take count places) ⌝ }
     {
