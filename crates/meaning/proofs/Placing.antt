@@ -1,0 +1,82 @@
+use mathlib.Core.Path.{_≡_, refl, ap, sym, subst, _∙_}
+use mathlib.Core.List.{List, [], _∷_}
+use mathlib.Core.Logic.{_⊎_, inl, inr}
+use Prim.Native.Nat.{ℕ, zero, suc, _+_}
+use native.Mathlib.Omega.{arith}
+use Rattle.std.specs.declared.option.Option.{Option}
+use Rattle.std.specs.declared.option.Option.the-variants.{Some, None}
+use Rattle.meaning.specs.Outcomes.{Outcome, value, fault, then, and-then, Fault}
+use Rattle.meaning.specs.Values.{Value}
+use Rattle.meaning.specs.Kleene.{kleene}
+use Rattle.meaning.specs.Hosts.{Meaning}
+use Rattle.meaning.specs.Evaluating.{Env, eval, evals, fn-value}
+use Rattle.meaning.specs.Trees.{Fn, Expr, logic, node, Exprs, nil, cons, nth-child}
+use Rattle.meaning.specs.Places.{Placed, valued, faulted, then-placed, under, at-top, forget-place, eval-placed, evals-placed, child-at, at-path}
+use Rattle.meaning.specs.LawsOfEvaluating.{Faults-at}
+
+forget-next : {A B : Type 0} (x : Placed A) (f : A → Placed B) → forget-place (then-placed x f) ≡ then (forget-place x) (λ (a : A). forget-place (f a))
+forget-next (valued a) f = refl
+forget-next (faulted flt p) f = refl
+
+forget-under : {A : Type 0} (i : ℕ) (x : Placed A) → forget-place (under i x) ≡ forget-place x
+forget-under i (valued a) = refl
+forget-under i (faulted flt p) = refl
+
+forget-own : {A : Type 0} (x : Outcome A) → forget-place (at-top x) ≡ x
+forget-own (value a) = refl
+forget-own (fault flt) = refl
+
+mutual
+  forgets : (m : Meaning) (r : Env) (e : Expr) → forget-place (eval-placed m r e) ≡ eval m r e
+  forgets m r (logic o a b) = simp (forget-next, forget-under, forgets m r a, forgets m r b)
+  forgets m r (node f es) = simp (forget-next, forget-own, forgets-all m r es 0)
+
+  forgets-all : (m : Meaning) (r : Env) (es : Exprs) (i : ℕ) → forget-place (evals-placed m r es i) ≡ evals m r es
+  forgets-all m r nil i = refl
+  forgets-all m r (cons e es) i = simp (forget-next, forget-under, forgets m r e, forgets-all m r es (suc i))
+
+next-bad : {A B : Type 0} (x : Placed A) (f : A → Placed B) (flt : Fault) (p : List ℕ) → then-placed x f ≡ faulted flt p → (x ≡ faulted flt p) ⊎ ((a : A) × (x ≡ valued a) × (f a ≡ faulted flt p))
+next-bad (valued a) f flt p h = inr (a, refl, h)
+next-bad (faulted k q) f flt p h = inl (cc)
+
+under-bad : {A : Type 0} (i : ℕ) (x : Placed A) (flt : Fault) (p : List ℕ) → under i x ≡ faulted flt p → (q : List ℕ) × (i ∷ q ≡ p) × (x ≡ faulted flt q)
+under-bad i (valued a) flt p h = let z : _≡_ {A = ℕ} 0 1 = cc in absurd (omega arith)
+under-bad i (faulted k q) flt p h = (q, cc, cc)
+
+good-bad : {A B : Type 0} (a : A) (flt : Fault) (p : List ℕ) → valued a ≡ faulted flt p → B
+good-bad a flt p h = let z : _≡_ {A = ℕ} 0 1 = cc in absurd (omega arith)
+
+own-bad : {A : Type 0} (x : Outcome A) (flt : Fault) (p : List ℕ) → at-top x ≡ faulted flt p → ([] ≡ p) × (x ≡ fault flt)
+own-bad (value a) flt p h = good-bad a flt p h
+own-bad (fault k) flt p h = (cc, cc)
+
+-- a fault below child i of e
+below : (m : Meaning) (r : Env) (e d : Expr) (i : ℕ) (flt : Fault) (q p : List ℕ) → child-at e i ≡ Some d → i ∷ q ≡ p → Faults-at m r d flt q → Faults-at m r e flt p
+below m r e d i flt q p h j x = record { function = x .function; children = x .children; values = x .values; there = ap (at-path e) (sym j) ∙ ap (λ (z : Option Expr). and-then z (λ (y : Expr). at-path y q)) h ∙ x .there; have-values = x .have-values; itself = x .itself }
+
+mutual
+  faults : (m : Meaning) (r : Env) (e : Expr) (flt : Fault) (p : List ℕ) → eval-placed m r e ≡ faulted flt p → Faults-at m r e flt p
+  faults m r (logic o a b) flt p h = elim (next-bad (under 0 (eval-placed m r a)) _ flt p h) [
+    | inl z ↦ let (q, j, k) = under-bad 0 (eval-placed m r a) flt p z in below m r (logic o a b) a 0 flt q p refl j (faults m r a flt q k)
+    | inr z ↦ elim (next-bad (under 1 (eval-placed m r b)) _ flt p (z .2)) [
+      | inl y ↦ let (q, j, k) = under-bad 1 (eval-placed m r b) flt p y in below m r (logic o a b) b 1 flt q p refl j (faults m r b flt q k)
+      | inr y ↦ good-bad _ flt p (y .2)
+    ]
+  ]
+  faults m r (node f es) flt p h = elim (next-bad (evals-placed m r es 0) _ flt p h) [
+    | inl z ↦ let (i, d, q, j, k, x) = faults-all m r es 0 flt p z in below m r (node f es) d i flt q p k (ap (λ (y : ℕ). y ∷ q) (omega arith) ∙ j) x
+    | inr z ↦ let (j, k) = own-bad (fn-value m r f (z .0)) flt p (z .2) in record { function = f; children = es; values = z .0; there = ap (at-path (node f es)) (sym j); have-values = sym (forgets-all m r es 0) ∙ ap forget-place (z .1); itself = k }
+  ]
+
+  faults-all : (m : Meaning) (r : Env) (es : Exprs) (s : ℕ) (flt : Fault) (p : List ℕ) → evals-placed m r es s ≡ faulted flt p → (i : ℕ) × (d : Expr) × (q : List ℕ) × ((s + i) ∷ q ≡ p) × (nth-child es i ≡ Some d) × Faults-at m r d flt q
+  faults-all m r nil s flt p h = good-bad _ flt p h
+  faults-all m r (cons e es) s flt p h = elim (next-bad (under s (eval-placed m r e)) _ flt p h) [
+    | inl z ↦ let (q, j, k) = under-bad s (eval-placed m r e) flt p z in (0, e, q, ap (λ (y : ℕ). y ∷ q) (omega arith) ∙ j, refl, faults m r e flt q k)
+    | inr z ↦ elim (next-bad (evals-placed m r es (suc s)) _ flt p (z .2)) [
+      | inl y ↦ let (i, d, q, j, k, x) = faults-all m r es (suc s) flt p y in (suc i, d, q, ap (λ (w : ℕ). w ∷ q) (omega arith) ∙ j, k, x)
+      | inr y ↦ good-bad _ flt p (y .2)
+    ]
+  ]
+
+pub places : (m : Meaning) (r : Env) (e : Expr) → (forget-place (eval-placed m r e) ≡ eval m r e) × ((flt : Fault) (p : List ℕ) → eval-placed m r e ≡ faulted flt p → Faults-at m r e flt p)
+places m r e = (forgets m r e, faults m r e)
