@@ -1,10 +1,10 @@
 pub mod Cleaning
+pub mod DeclaredColumns
 pub mod Faulting
 pub mod Firing
 pub mod Formed
 pub mod Fused
 pub mod Kleene
-pub mod Stated
 pub mod NewLaws
 pub mod NewLaws2
 pub mod Optimizing
@@ -14,5 +14,6 @@ pub mod Rows
 pub mod Sizes
 pub mod Sound
 pub mod Splitting
+pub mod Stated
 pub mod Tools
 pub mod Worked

@@ -1,4 +1,5 @@
 //! The laws of typing and evaluation.
+ghost use Rattle.meaning.specs.Columns.{Declared-columns-are-plain};
 ghost use Rattle.meaning.specs.Infallible.{Infallible-has-value};
 ghost use Rattle.meaning.specs.LawsOfEvaluating.{Values-fit, Bound-trees-are-well-formed, Places-name-the-fault};
 ghost use Rattle.meaning.specs.LawsOfEvaluating.{Rows-are-roots, Items-are-of-roots, Rows-fit, Items-fit};
@@ -52,6 +53,13 @@ pub fn rows_fit() -> u8
 pub fn items_read_the_row() -> u8
     ensures fit { λ _. ⌜ Items-fit ⌝ }
     ensures place { λ _. ⌜ Items-read-their-place ⌝ }
+{
+    0
+}
+
+/// Schemas declared column by column have plain columns, as these laws ask.
+pub fn declared_columns_are_plain() -> u8
+    ensures { λ _. ⌜ Declared-columns-are-plain ⌝ }
 {
     0
 }
