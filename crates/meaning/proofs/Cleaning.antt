@@ -1,26 +1,25 @@
 -- After fusing no And is straddled, and fusing again changes nothing.
-use mathlib.Core.Path.{_≡_, refl, ap, sym, subst, _∙_}
-use mathlib.Core.List.{List, [], _∷_}
-use mathlib.Core.Logic.{_⊎_, inl, inr}
-use mathlib.Core.Bool.{Bool, true, false, cond, not, _&&_, _||_}
+use mathlib.Core.Bool.{Bool, true, false, cond}
+use mathlib.Core.List.{[], _∷_}
+use mathlib.Core.Logic.{inl, inr}
+use mathlib.Core.Path.{_≡_, refl, ap, subst}
 use Prim.Native.Nat.{ℕ, zero, suc, _+_, _<_, _≤_}
 use native.Mathlib.Omega.{arith}
-use Rattle.vocabulary.specs.declared.types.DType.{DType}
+use Rattle.std.specs.Options.{mapped}
 use Rattle.std.specs.declared.option.Option.{Option}
 use Rattle.std.specs.declared.option.Option.the-variants.{Some, None}
-use Rattle.meaning.proofs.Tools.{none-some, some-none, some-same, obind-some, omap-some, omap-none, orelse-some, orelse-none, obind-none}
-use Rattle.meaning.specs.Outcomes.{and-then}
-use Rattle.std.specs.Options.{mapped, orOther}
-use Rattle.vocabulary.specs.declared.operators.Connective.{Connective}
 use Rattle.vocabulary.specs.declared.operators.Connective.the-variants.{And, Or}
-use Rattle.meaning.specs.Hosts.{Meaning}
+use Rattle.vocabulary.specs.declared.types.DType.{DType}
 use Rattle.meaning.specs.Columns.{Schemas}
-use Rattle.meaning.specs.Trees.{Fn, Expr, logic, node, Exprs, nil, cons}
-use Rattle.meaning.specs.Typing.{typed}
-use Rattle.meaning.specs.Conjuncts.{conjuncts, replace-first, count-conjuncts, Each-conjunct}
-use Rattle.meaning.specs.Ranges.{Column, Bound, Range, range}
-use Rattle.meaning.specs.Fusing.{same-column, between-tree, if-typed, if-binds, fuse-sides, fuse-ranges, fuse, Merged, merged, beside, before, keep-right, keep-left, merge, merging-step, merging, find-between, find-between-all}
+use Rattle.meaning.specs.Conjuncts.{conjuncts, count-conjuncts, replace-first, Each-conjunct}
+use Rattle.meaning.specs.Fusing.{same-column, between-tree, if-typed, fuse-sides, fuse, Merged, merged, keep-right}
+use Rattle.meaning.specs.Fusing.{keep-left, merge, merging-step, merging, find-between, find-between-all}
+use Rattle.meaning.specs.Hosts.{Meaning}
 use Rattle.meaning.specs.LawsOfFusing.{Apart, Fused, Fused-all}
+use Rattle.meaning.specs.Ranges.{Range, range}
+use Rattle.meaning.specs.Trees.{Expr, logic, node, Exprs, nil, cons}
+use Rattle.meaning.proofs.CaseSplits.{none-some, some-same, and-then-some, and-then-none, mapped-some, mapped-none}
+use Rattle.meaning.proofs.CaseSplits.{orOther-some, orOther-none}
 
 -- ── what holds of each conjunct ──
 each-all : (P : Expr → Type 0) → ((e : Expr) → P e) → (e : Expr) → Each-conjunct P e
@@ -33,31 +32,31 @@ each-map P Q f (logic And a b) h = (each-map P Q f a (h .0), each-map P Q f b (h
 each-map P Q f (logic Or a b) h = f (logic Or a b) h
 each-map P Q f (node g es) h = f (node g es) h
 
-pub place-none : (g : Expr → Option Expr) (l : Expr) → replace-first g l ≡ None → Each-conjunct (λ c. g c ≡ None) l
-place-none g (logic And a b) h =
-    let (p, q) = orelse-none (mapped (λ c. logic And c b) (replace-first g a)) (mapped (λ c. logic And a c) (replace-first g b)) h in
-    (place-none g a (omap-none (λ c. logic And c b) (replace-first g a) p), place-none g b (omap-none (λ c. logic And a c) (replace-first g b) q))
-place-none g (logic Or a b) h = h
-place-none g (node f es) h = h
+pub replace-none : (g : Expr → Option Expr) (l : Expr) → replace-first g l ≡ None → Each-conjunct (λ c. g c ≡ None) l
+replace-none g (logic And a b) h =
+    let (p, q) = orOther-none (mapped (λ c. logic And c b) (replace-first g a)) (mapped (λ c. logic And a c) (replace-first g b)) h in
+    (replace-none g a (mapped-none (λ c. logic And c b) (replace-first g a) p), replace-none g b (mapped-none (λ c. logic And a c) (replace-first g b) q))
+replace-none g (logic Or a b) h = h
+replace-none g (node f es) h = h
 
-none-place : (g : Expr → Option Expr) (l : Expr) → Each-conjunct (λ c. g c ≡ None) l → replace-first g l ≡ None
-none-place g (logic And a b) h = simp (none-place g a (h .0), none-place g b (h .1))
-none-place g (logic Or a b) h = h
-none-place g (node f es) h = h
+none-replaced : (g : Expr → Option Expr) (l : Expr) → Each-conjunct (λ c. g c ≡ None) l → replace-first g l ≡ None
+none-replaced g (logic And a b) h = simp (none-replaced g a (h .0), none-replaced g b (h .1))
+none-replaced g (logic Or a b) h = h
+none-replaced g (node f es) h = h
 
-place-each : (g : Expr → Option Expr) (P : Expr → Type 0) → ((c b : Expr) → g c ≡ Some b → Each-conjunct P b) → (l k : Expr) → Each-conjunct P l → replace-first g l ≡ Some k → Each-conjunct P k
-place-each g P f (logic And a b) k p h = elim (orelse-some (mapped (λ c. logic And c b) (replace-first g a)) (mapped (λ c. logic And a c) (replace-first g b)) k h) [
-  | inl q ↦ let (c, e, i) = omap-some (λ c. logic And c b) (replace-first g a) k q in subst (Each-conjunct P) i (place-each g P f a c (p .0) e, p .1)
-  | inr q ↦ let (c, e, i) = omap-some (λ c. logic And a c) (replace-first g b) k (q .1) in subst (Each-conjunct P) i (p .0, place-each g P f b c (p .1) e)
+replace-each : (g : Expr → Option Expr) (P : Expr → Type 0) → ((c b : Expr) → g c ≡ Some b → Each-conjunct P b) → (l k : Expr) → Each-conjunct P l → replace-first g l ≡ Some k → Each-conjunct P k
+replace-each g P f (logic And a b) k p h = elim (orOther-some (mapped (λ c. logic And c b) (replace-first g a)) (mapped (λ c. logic And a c) (replace-first g b)) k h) [
+  | inl q ↦ let (c, e, i) = mapped-some (λ c. logic And c b) (replace-first g a) k q in subst (Each-conjunct P) i (replace-each g P f a c (p .0) e, p .1)
+  | inr q ↦ let (c, e, i) = mapped-some (λ c. logic And a c) (replace-first g b) k (q .1) in subst (Each-conjunct P) i (p .0, replace-each g P f b c (p .1) e)
 ]
-place-each g P f (logic Or a b) k p h = f (logic Or a b) k h
-place-each g P f (node n es) k p h = f (node n es) k h
+replace-each g P f (logic Or a b) k p h = f (logic Or a b) k h
+replace-each g P f (node n es) k p h = f (node n es) k h
 
 module _ (m : Meaning) (ss : Schemas) where
   -- a Between is no range comparison, so it is in no pair
   unranged-right : (d c : Expr) → range d ≡ None → fuse m ss d c ≡ None
   unfolding fuse
-  unranged-right d c h = simp h (obind-none (range c))
+  unranged-right d c h = simp h (and-then-none (range c))
 
   unranged-left : (d c : Expr) → range c ≡ None → fuse m ss d c ≡ None
   unfolding fuse
@@ -90,8 +89,8 @@ module _ (m : Meaning) (ss : Schemas) where
   fuse-inert : (d c b : Expr) → fuse m ss d c ≡ Some b → Inert b
   unfolding fuse
   fuse-inert d c b h =
-      let (p, hp, h1) = obind-some (range c) _ b h in
-      let (q, hq, h2) = obind-some (range d) _ b h1 in
+      let (p, hp, h1) = and-then-some (range c) _ b h in
+      let (q, hq, h2) = and-then-some (range d) _ b h1 in
       ranges-inert (same-column (p .col) (q .col)) p q b h2
 
   sides-conjunct : (p q : Range) (x y : Bool) (b : Expr) → fuse-sides m ss p q x y ≡ Some b → conjuncts b ≡ b ∷ []
@@ -107,23 +106,23 @@ module _ (m : Meaning) (ss : Schemas) where
   pub fuse-conjunct : (d c b : Expr) → fuse m ss d c ≡ Some b → conjuncts b ≡ b ∷ []
   unfolding fuse
   fuse-conjunct d c b h =
-      let (p, hp, h1) = obind-some (range c) _ b h in
-      let (q, hq, h2) = obind-some (range d) _ b h1 in
+      let (p, hp, h1) = and-then-some (range c) _ b h in
+      let (q, hq, h2) = and-then-some (range d) _ b h1 in
       ranges-conjunct (same-column (p .col) (q .col)) p q b h2
 
   module _ (g : Expr → Option Expr) (inert : (c b : Expr) → g c ≡ Some b → Inert b) where
-    place-apart-left : (d l k : Expr) → Each-conjunct (λ c. fuse m ss d c ≡ None) l → replace-first g l ≡ Some k → Each-conjunct (λ c. fuse m ss d c ≡ None) k
-    place-apart-left d l k p h = place-each g (λ c. fuse m ss d c ≡ None) (λ c b e. inert c b e .1 .1 (λ c. fuse m ss d c ≡ None) (unranged-left d b (inert c b e .0))) l k p h
+    replace-apart : (d l k : Expr) → Each-conjunct (λ c. fuse m ss d c ≡ None) l → replace-first g l ≡ Some k → Each-conjunct (λ c. fuse m ss d c ≡ None) k
+    replace-apart d l k p h = replace-each g (λ c. fuse m ss d c ≡ None) (λ c b e. inert c b e .1 .1 (λ c. fuse m ss d c ≡ None) (unranged-left d b (inert c b e .0))) l k p h
 
-    place-clean : (l k : Expr) → Fused m ss l → replace-first g l ≡ Some k → Fused m ss k
-    place-clean (logic And a b) k p h = elim (orelse-some (mapped (λ c. logic And c b) (replace-first g a)) (mapped (λ c. logic And a c) (replace-first g b)) k h) [
-      | inl q ↦ let (c, e, i) = omap-some (λ c. logic And c b) (replace-first g a) k q in
-          subst (Fused m ss) i ((place-clean a c (p .0 .0) e, p .0 .1), each-map (λ d. Each-conjunct (λ c. fuse m ss d c ≡ None) a) (λ d. Each-conjunct (λ x. fuse m ss d x ≡ None) c) (λ d o. place-apart-left d a c o e) b (p .1))
-      | inr q ↦ let (c, e, i) = omap-some (λ c. logic And a c) (replace-first g b) k (q .1) in
-          subst (Fused m ss) i ((p .0 .0, place-clean b c (p .0 .1) e), place-each g (λ d. Each-conjunct (λ x. fuse m ss d x ≡ None) a) (λ x y j. inert x y j .1 .1 (λ d. Each-conjunct (λ x. fuse m ss d x ≡ None) a) (each-all (λ z. fuse m ss y z ≡ None) (λ z. unranged-right y z (inert x y j .0)) a)) b c (p .1) e)
+    replace-fused : (l k : Expr) → Fused m ss l → replace-first g l ≡ Some k → Fused m ss k
+    replace-fused (logic And a b) k p h = elim (orOther-some (mapped (λ c. logic And c b) (replace-first g a)) (mapped (λ c. logic And a c) (replace-first g b)) k h) [
+      | inl q ↦ let (c, e, i) = mapped-some (λ c. logic And c b) (replace-first g a) k q in
+          subst (Fused m ss) i ((replace-fused a c (p .0 .0) e, p .0 .1), each-map (λ d. Each-conjunct (λ c. fuse m ss d c ≡ None) a) (λ d. Each-conjunct (λ x. fuse m ss d x ≡ None) c) (λ d o. replace-apart d a c o e) b (p .1))
+      | inr q ↦ let (c, e, i) = mapped-some (λ c. logic And a c) (replace-first g b) k (q .1) in
+          subst (Fused m ss) i ((p .0 .0, replace-fused b c (p .0 .1) e), replace-each g (λ d. Each-conjunct (λ x. fuse m ss d x ≡ None) a) (λ x y j. inert x y j .1 .1 (λ d. Each-conjunct (λ x. fuse m ss d x ≡ None) a) (each-all (λ z. fuse m ss y z ≡ None) (λ z. unranged-right y z (inert x y j .0)) a)) b c (p .1) e)
     ]
-    place-clean (logic Or a b) k p h = inert (logic Or a b) k h .1 .0
-    place-clean (node f es) k p h = inert (node f es) k h .1 .0
+    replace-fused (logic Or a b) k p h = inert (logic Or a b) k h .1 .0
+    replace-fused (node f es) k p h = inert (node f es) k h .1 .0
 
   -- ── merging ──
   abbrev Rest : (Expr → Type 0) → Option Expr → Type 0
@@ -146,12 +145,12 @@ module _ (m : Meaning) (ss : Schemas) where
 
   -- what holds of each right conjunct holds of each that is left
   merge-each : (P : Expr → Type 0) (l r : Expr) (x : Merged) → Each-conjunct P r → merge m ss l r ≡ Some x → With-right (Each-conjunct P) x
-  merge-each P l (logic And a b) x p h = elim (orelse-some (mapped (keep-right b) (merge m ss l a)) (mapped (keep-left a) (merge m ss l b)) x h) [
-    | inl q ↦ let (y, e, i) = omap-some (keep-right b) (merge m ss l a) x q in subst (With-right (Each-conjunct P)) i (each-beside P b y (merge-each P l a y (p .0) e) (p .1))
-    | inr q ↦ let (y, e, i) = omap-some (keep-left a) (merge m ss l b) x (q .1) in subst (With-right (Each-conjunct P)) i (each-before P a y (merge-each P l b y (p .1) e) (p .0))
+  merge-each P l (logic And a b) x p h = elim (orOther-some (mapped (keep-right b) (merge m ss l a)) (mapped (keep-left a) (merge m ss l b)) x h) [
+    | inl q ↦ let (y, e, i) = mapped-some (keep-right b) (merge m ss l a) x q in subst (With-right (Each-conjunct P)) i (each-beside P b y (merge-each P l a y (p .0) e) (p .1))
+    | inr q ↦ let (y, e, i) = mapped-some (keep-left a) (merge m ss l b) x (q .1) in subst (With-right (Each-conjunct P)) i (each-before P a y (merge-each P l b y (p .1) e) (p .0))
   ]
-  merge-each P l (logic Or a b) x p h = let (k, e, i) = omap-some (λ k. merged k None) (replace-first (fuse m ss (logic Or a b)) l) x h in subst (With-right (Each-conjunct P)) i (tt, tt)
-  merge-each P l (node f es) x p h = let (k, e, i) = omap-some (λ k. merged k None) (replace-first (fuse m ss (node f es)) l) x h in subst (With-right (Each-conjunct P)) i (tt, tt)
+  merge-each P l (logic Or a b) x p h = let (k, e, i) = mapped-some (λ k. merged k None) (replace-first (fuse m ss (logic Or a b)) l) x h in subst (With-right (Each-conjunct P)) i (tt, tt)
+  merge-each P l (node f es) x p h = let (k, e, i) = mapped-some (λ k. merged k None) (replace-first (fuse m ss (node f es)) l) x h in subst (With-right (Each-conjunct P)) i (tt, tt)
 
   abbrev Both-clean : Merged → Type 0
   Both-clean x = Of-merged (Fused m ss) (Rest (Fused m ss)) x
@@ -165,12 +164,12 @@ module _ (m : Meaning) (ss : Schemas) where
   clean-before l a b (merged k (Some c)) e h p o = (h .0, ((p, h .1), merge-each (λ d. Each-conjunct (λ x. fuse m ss d x ≡ None) a) l b (merged k (Some c)) o e .1))
 
   merge-clean : (l r : Expr) (x : Merged) → Fused m ss l → Fused m ss r → merge m ss l r ≡ Some x → Both-clean x
-  merge-clean l (logic And a b) x p q h = elim (orelse-some (mapped (keep-right b) (merge m ss l a)) (mapped (keep-left a) (merge m ss l b)) x h) [
-    | inl o ↦ let (y, e, i) = omap-some (keep-right b) (merge m ss l a) x o in subst Both-clean i (clean-beside l a b y e (merge-clean l a y p (q .0 .0) e) (q .0 .1) (q .1))
-    | inr o ↦ let (y, e, i) = omap-some (keep-left a) (merge m ss l b) x (o .1) in subst Both-clean i (clean-before l a b y e (merge-clean l b y p (q .0 .1) e) (q .0 .0) (q .1))
+  merge-clean l (logic And a b) x p q h = elim (orOther-some (mapped (keep-right b) (merge m ss l a)) (mapped (keep-left a) (merge m ss l b)) x h) [
+    | inl o ↦ let (y, e, i) = mapped-some (keep-right b) (merge m ss l a) x o in subst Both-clean i (clean-beside l a b y e (merge-clean l a y p (q .0 .0) e) (q .0 .1) (q .1))
+    | inr o ↦ let (y, e, i) = mapped-some (keep-left a) (merge m ss l b) x (o .1) in subst Both-clean i (clean-before l a b y e (merge-clean l b y p (q .0 .1) e) (q .0 .0) (q .1))
   ]
-  merge-clean l (logic Or a b) x p q h = let (k, e, i) = omap-some (λ k. merged k None) (replace-first (fuse m ss (logic Or a b)) l) x h in subst Both-clean i (place-clean (fuse m ss (logic Or a b)) (fuse-inert (logic Or a b)) l k p e, tt)
-  merge-clean l (node f es) x p q h = let (k, e, i) = omap-some (λ k. merged k None) (replace-first (fuse m ss (node f es)) l) x h in subst Both-clean i (place-clean (fuse m ss (node f es)) (fuse-inert (node f es)) l k p e, tt)
+  merge-clean l (logic Or a b) x p q h = let (k, e, i) = mapped-some (λ k. merged k None) (replace-first (fuse m ss (logic Or a b)) l) x h in subst Both-clean i (replace-fused (fuse m ss (logic Or a b)) (fuse-inert (logic Or a b)) l k p e, tt)
+  merge-clean l (node f es) x p q h = let (k, e, i) = mapped-some (λ k. merged k None) (replace-first (fuse m ss (node f es)) l) x h in subst Both-clean i (replace-fused (fuse m ss (node f es)) (fuse-inert (node f es)) l k p e, tt)
 
   -- one right conjunct fewer
   count-rest : Option Expr → ℕ
@@ -192,24 +191,24 @@ module _ (m : Meaning) (ss : Schemas) where
 
   merge-fewer : (l r : Expr) (x : Merged) → merge m ss l r ≡ Some x → Fewer (count-conjuncts r) x
   unfolding count-rest
-  merge-fewer l (logic And a b) x h = elim (orelse-some (mapped (keep-right b) (merge m ss l a)) (mapped (keep-left a) (merge m ss l b)) x h) [
-    | inl o ↦ let (y, e, i) = omap-some (keep-right b) (merge m ss l a) x o in subst (Fewer (count-conjuncts a + count-conjuncts b)) i (fewer-right b (count-conjuncts a) y (merge-fewer l a y e))
-    | inr o ↦ let (y, e, i) = omap-some (keep-left a) (merge m ss l b) x (o .1) in subst (Fewer (count-conjuncts a + count-conjuncts b)) i (fewer-left a (count-conjuncts b) y (merge-fewer l b y e))
+  merge-fewer l (logic And a b) x h = elim (orOther-some (mapped (keep-right b) (merge m ss l a)) (mapped (keep-left a) (merge m ss l b)) x h) [
+    | inl o ↦ let (y, e, i) = mapped-some (keep-right b) (merge m ss l a) x o in subst (Fewer (count-conjuncts a + count-conjuncts b)) i (fewer-right b (count-conjuncts a) y (merge-fewer l a y e))
+    | inr o ↦ let (y, e, i) = mapped-some (keep-left a) (merge m ss l b) x (o .1) in subst (Fewer (count-conjuncts a + count-conjuncts b)) i (fewer-left a (count-conjuncts b) y (merge-fewer l b y e))
   ]
-  merge-fewer l (logic Or a b) x h = let (k, e, i) = omap-some (λ k. merged k None) (replace-first (fuse m ss (logic Or a b)) l) x h in subst (Fewer 1) i refl
-  merge-fewer l (node f es) x h = let (k, e, i) = omap-some (λ k. merged k None) (replace-first (fuse m ss (node f es)) l) x h in subst (Fewer 1) i refl
+  merge-fewer l (logic Or a b) x h = let (k, e, i) = mapped-some (λ k. merged k None) (replace-first (fuse m ss (logic Or a b)) l) x h in subst (Fewer 1) i refl
+  merge-fewer l (node f es) x h = let (k, e, i) = mapped-some (λ k. merged k None) (replace-first (fuse m ss (node f es)) l) x h in subst (Fewer 1) i refl
 
   pub merge-none : (l r : Expr) → merge m ss l r ≡ None → Apart m ss l r
   merge-none l (logic And a b) h =
-      let (p, q) = orelse-none (mapped (keep-right b) (merge m ss l a)) (mapped (keep-left a) (merge m ss l b)) h in
-      (merge-none l a (omap-none (keep-right b) (merge m ss l a) p), merge-none l b (omap-none (keep-left a) (merge m ss l b) q))
-  merge-none l (logic Or a b) h = place-none (fuse m ss (logic Or a b)) l (omap-none (λ k. merged k None) (replace-first (fuse m ss (logic Or a b)) l) h)
-  merge-none l (node f es) h = place-none (fuse m ss (node f es)) l (omap-none (λ k. merged k None) (replace-first (fuse m ss (node f es)) l) h)
+      let (p, q) = orOther-none (mapped (keep-right b) (merge m ss l a)) (mapped (keep-left a) (merge m ss l b)) h in
+      (merge-none l a (mapped-none (keep-right b) (merge m ss l a) p), merge-none l b (mapped-none (keep-left a) (merge m ss l b) q))
+  merge-none l (logic Or a b) h = replace-none (fuse m ss (logic Or a b)) l (mapped-none (λ k. merged k None) (replace-first (fuse m ss (logic Or a b)) l) h)
+  merge-none l (node f es) h = replace-none (fuse m ss (node f es)) l (mapped-none (λ k. merged k None) (replace-first (fuse m ss (node f es)) l) h)
 
   pub none-merge : (l r : Expr) → Apart m ss l r → merge m ss l r ≡ None
   none-merge l (logic And a b) h = simp (none-merge l a (h .0), none-merge l b (h .1))
-  none-merge l (logic Or a b) h = simp (none-place (fuse m ss (logic Or a b)) l h)
-  none-merge l (node f es) h = simp (none-place (fuse m ss (node f es)) l h)
+  none-merge l (logic Or a b) h = simp (none-replaced (fuse m ss (logic Or a b)) l h)
+  none-merge l (node f es) h = simp (none-replaced (fuse m ss (node f es)) l h)
 
   count-some : (e : Expr) → 0 < count-conjuncts e
   count-some (logic And a b) = omega (arith, count-some a)
@@ -255,5 +254,5 @@ mutual
   cleans-find m ss nil h = refl
   cleans-find m ss (cons e es) h = simp (clean-find m ss e (h .0), cleans-find m ss es (h .1))
 
-pub fused-clean : (m : Meaning) (ss : Schemas) (e : Expr) → Fused m ss (find-between m ss e) × (find-between m ss (find-between m ss e) ≡ find-between m ss e)
-fused-clean m ss e = (find-clean m ss e, clean-find m ss (find-between m ss e) (find-clean m ss e))
+pub fusing-completes : (m : Meaning) (ss : Schemas) (e : Expr) → Fused m ss (find-between m ss e) × (find-between m ss (find-between m ss e) ≡ find-between m ss e)
+fusing-completes m ss e = (find-clean m ss e, clean-find m ss (find-between m ss e) (find-clean m ss e))

@@ -1,13 +1,11 @@
 -- Columns that were declared one by one have plain types.
-use mathlib.Core.Path.{_≡_, ap, subst}
-use mathlib.Core.List.{List, [], _∷_, _++_}
 use mathlib.Core.Bool.{Bool, true, false, cond}
+use mathlib.Core.List.{List, [], _∷_, _++_}
+use mathlib.Core.Path.{_≡_, subst}
 use Prim.Native.Nat.{ℕ, _+_}
 use Rattle.std.proofs.shelf.Tests.{and-parts}
-use Rattle.std.specs.Options.{mapped}
+use Rattle.std.specs.declared.option.Option.the-variants.{Some}
 use Rattle.std.specs.shelf.Text.{sameBytes}
-use Rattle.std.specs.declared.option.Option.{Option}
-use Rattle.std.specs.declared.option.Option.the-variants.{Some, None}
 use Rattle.vocabulary.specs.Types.{isPlain}
 use Rattle.vocabulary.specs.declared.types.DType.{DType}
 use Rattle.schemas.specs.Declarations.{takes, declaredAfter}
@@ -15,7 +13,7 @@ use Rattle.schemas.specs.Fields.{Field, foundFrom}
 use Rattle.schemas.specs.declared.found.Found.{Found}
 use Rattle.meaning.specs.Columns.{column-type, Declared-columns-are-plain}
 use Rattle.meaning.specs.Lists.{nth}
-use Rattle.meaning.proofs.Tools.{none-some, some-same, obind-some, omap-some}
+use Rattle.meaning.proofs.CaseSplits.{none-some, some-same, and-then-some, mapped-some}
 
 -- a column that a schema takes is plain
 taken-plain : (fs : List Field) (f : Field) → takes fs f ≡ true → isPlain (f .dtype) ≡ true
@@ -39,6 +37,6 @@ found-plain i n before (f ∷ fs) x p h =
 pub declared-columns-are-plain : Declared-columns-are-plain
 unfolding column-type
 declared-columns-are-plain ss ok s n t h =
-    let (fs, a, g) = obind-some (nth ss s) _ t h in
-    let (x, b, e) = omap-some (λ (c : Found). c .dtype) (foundFrom 0 n fs) t g in
+    let (fs, a, g) = and-then-some (nth ss s) _ t h in
+    let (x, b, e) = mapped-some (λ (c : Found). c .dtype) (foundFrom 0 n fs) t g in
     subst (λ (z : DType). isPlain z ≡ true) e (found-plain 0 n [] fs x (ok s fs a) b)

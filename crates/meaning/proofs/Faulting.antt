@@ -1,53 +1,46 @@
 -- An infallible tree has a value.
-use mathlib.Core.Path.{_≡_, refl, ap, sym, subst, _∙_}
+use mathlib.Core.Bool.{Bool, true, false, cond, _&&_, _||_}
 use mathlib.Core.List.{List, [], _∷_}
-use mathlib.Core.Logic.{_⊎_, inl, inr}
-use mathlib.Core.Bool.{Bool, true, false, cond, not, _&&_, _||_}
-use Prim.Native.Nat.{ℕ, zero, suc, _+_, _-_, _*_, _/_, _<_, _≤_}
+use mathlib.Core.Path.{_≡_, refl, ap, sym, subst, _∙_}
+use Prim.Native.Nat.{ℕ}
 use native.Mathlib.Omega.{arith}
-use lib.IntN.{ℤ, pos, negsuc, _+ℤ_, _-ℤ_, _*ℤ_}
-use lib.Dec.{eqb, ltb}
+use Rattle.std.proofs.shelf.Tests.{and-parts}
 use Rattle.std.proofs.shelf.Ways.{tells}
-use Rattle.std.proofs.shelf.Tests.{and-parts, and-from}
+use Rattle.std.specs.declared.option.Option.the-variants.{Some}
+use Rattle.vocabulary.specs.Types.{sameKind, plainKind}
+use Rattle.vocabulary.specs.declared.operators.BetweenOptions.{BetweenOptions}
+use Rattle.vocabulary.specs.declared.operators.CompareOperator.{CompareOperator}
+use Rattle.vocabulary.specs.declared.operators.Connective.the-variants.{And}
 use Rattle.vocabulary.specs.declared.types.DType.{DType}
 use Rattle.vocabulary.specs.declared.types.Kind.{Kind}
-use Rattle.vocabulary.specs.declared.types.Kind.the-variants.{Bool as KBool, I64, U64, Utf8, Extension, Row}
-use Rattle.std.specs.declared.option.Option.{Option}
-use Rattle.std.specs.declared.option.Option.the-variants.{Some, None}
-use Rattle.meaning.proofs.Tools.{none-some, some-none, fault-value, false-true, some-same, value-same, obind-some, then-value, cond-some, nil-some, nil-opt, one-some, two-some, three-some}
-use Rattle.meaning.proofs.Rows.{rows-are-roots, typed-cons, item-rowless}
-use Rattle.meaning.proofs.Sound.{sound, sounds, like-same, is-row, fit-nil, fit-one, fit-two, fit-three}
-use Rattle.meaning.specs.Outcomes.{Outcome, value, fault, and-then, then, settled, malformed, unlike}
-use Rattle.std.specs.Options.{mapped, orOther}
-use Rattle.meaning.specs.Lists.{of-one, of-two, of-three, of-none, nth, picks}
-use Rattle.vocabulary.specs.Types.{sameKind, plainKind}
-use Rattle.meaning.specs.Values.{boolean, Value, null, bool, signed, unsigned, text, ext, whole, fits, all-fit, in-i64, is-null, kind-of}
-use Rattle.vocabulary.specs.declared.operators.Connective.{Connective}
-use Rattle.vocabulary.specs.declared.operators.Connective.the-variants.{And, Or}
-use Rattle.meaning.specs.Kleene.{kleene-table, kleene, truth, of-truth}
-use Rattle.vocabulary.specs.declared.operators.CompareOperator.{CompareOperator}
-use Rattle.vocabulary.specs.declared.operators.CompareOperator.the-variants.{Lt, Lte}
-use Rattle.vocabulary.specs.declared.operators.BetweenOptions.{BetweenOptions}
-use Rattle.meaning.specs.Comparing.{bound-operator, compares, lies-between, alike, holds}
-use Rattle.vocabulary.specs.declared.operators.Arithmetic.{Arithmetic}
-use Rattle.vocabulary.specs.declared.operators.Arithmetic.the-variants.{Add, Sub, Mul, Div}
-use Rattle.meaning.specs.Computing.{computes, with-signed, with-unsigned, compute-signed, compute-unsigned, signed-result, unsigned-result, magnitude, with-sign}
-use Rattle.meaning.specs.Hosts.{Meaning, host-type}
+use Rattle.vocabulary.specs.declared.types.Kind.the-variants as kind
+use Rattle.meaning.specs.Columns.{Schemas, Columns-plain}
+use Rattle.meaning.specs.Comparing.{holds, alike, compares, bound-operator, lies-between}
+use Rattle.meaning.specs.Evaluating.{Env, Env-fits, item-value, fn-value, eval, evals}
+use Rattle.meaning.specs.Hosts.{Meaning}
+use Rattle.meaning.specs.Infallible.{Safe, Safe-law, fn-safe, with-types, infallible, infallibles}
+use Rattle.meaning.specs.Kleene.{kleene}
 use Rattle.meaning.specs.Lawful.{Lawful}
-use Rattle.meaning.specs.Columns.{Schemas, column-type, Columns-plain}
-use Rattle.meaning.specs.Evaluating.{Env, Env-fits, eval, evals, fn-value, item-value}
-use Rattle.meaning.specs.Trees.{Fn, root, literal, get-item, cast, compare, compute, between, call, Expr, logic, node, Exprs, nil, cons}
-use Rattle.meaning.specs.Typing.{typed, typed-all, fn-type, item-type, logic-type, compare-type, compute-type, between-type, cast-type}
-use Rattle.meaning.specs.Infallible.{Safe, Safe-law, alike-types, fn-safe, with-types, infallible, infallibles}
+use Rattle.meaning.specs.Lists.{of-none, of-one}
+use Rattle.meaning.specs.Outcomes.{unlike, malformed, value, fault}
+use Rattle.meaning.specs.Trees.{Fn, root, literal, get-item, cast, compare, compute, between, call, Expr, logic, node}
+use Rattle.meaning.specs.Trees.{Exprs, nil, cons}
+use Rattle.meaning.specs.Typing.{item-type, compare-type, between-type, cast-type, fn-type, typed, typed-all}
+use Rattle.meaning.specs.Values.{Value, null, bool, signed, unsigned, text, ext, whole, is-null, kind-of, fits}
+use Rattle.meaning.specs.Values.{all-fit}
+use Rattle.meaning.proofs.CaseSplits.{none-some, false-true, some-same, and-then-some, cond-some, of-none-is}
+use Rattle.meaning.proofs.CaseSplits.{of-none-some, of-one-some, of-two-some, of-three-some}
+use Rattle.meaning.proofs.Rows.{item-rowless, typed-cons, rows-are-roots}
+use Rattle.meaning.proofs.Sound.{one-kind, fit-nil, fit-one, fit-two, fit-three, all-values-fit}
 
 solid-kind : (v : Value) (t : DType) → is-null v ≡ false → fits v t ≡ true → kind-of v ≡ t .kind
 solid-kind null t p h = false-true (sym p)
-solid-kind (bool b) t p h = like-same KBool (t .kind) h
-solid-kind (signed b) t p h = like-same I64 (t .kind) (and-parts _ _ h .0)
-solid-kind (unsigned b) t p h = like-same U64 (t .kind) (and-parts _ _ h .0)
-solid-kind (text b) t p h = like-same Utf8 (t .kind) (and-parts _ _ h .0)
-solid-kind (ext e b) t p h = like-same (Extension e) (t .kind) (and-parts _ _ h .0)
-solid-kind (whole b) t p h = like-same (Row b) (t .kind) h
+solid-kind (bool b) t p h = one-kind kind.Bool (t .kind) h
+solid-kind (signed b) t p h = one-kind kind.I64 (t .kind) (and-parts _ _ h .0)
+solid-kind (unsigned b) t p h = one-kind kind.U64 (t .kind) (and-parts _ _ h .0)
+solid-kind (text b) t p h = one-kind kind.Utf8 (t .kind) (and-parts _ _ h .0)
+solid-kind (ext e b) t p h = one-kind (kind.Extension e) (t .kind) (and-parts _ _ h .0)
+solid-kind (whole b) t p h = one-kind (kind.Row b) (t .kind) h
 
 compare-some : (c : CompareOperator) (t u : DType) (v w : Value) → sameKind (t .kind) (u .kind) ≡ true → fits v t ≡ true → fits w u ≡ true → (x : Value) × (compares c v w ≡ value x)
 compare-some c t u v w l p q = go (is-null v) (is-null w) refl refl
@@ -60,7 +53,7 @@ compare-some c t u v w l p q = go (is-null v) (is-null w) refl refl
         (bool (holds c v w), ap (λ (z : Bool). cond z (value (bool (holds c v w))) (fault unlike)) e)
 
 like-comm : (k l : Kind) → sameKind k l ≡ true → sameKind l k ≡ true
-like-comm k l p = rw (like-same k l p) (like-refl l)
+like-comm k l p = rw (one-kind k l p) (like-refl l)
   where
     like-refl : (k : Kind) → sameKind k k ≡ true
     like-refl k = grind (arith, tells)
@@ -88,65 +81,65 @@ item-some r n ss t s (ext e b) o h p = none-some s (subst (λ (k : Kind). item-t
 item-some r n ss t s (whole q) o h p = (r q n, refl)
 
 -- a Row is not nullable
-row-solid : (m : Meaning) → Lawful m → (ss : Schemas) → Columns-plain ss → (e : Expr) (t : DType) (s : ℕ) → typed m ss e ≡ Some t → t .kind ≡ Row s → t .nullable ≡ false
+row-solid : (m : Meaning) → Lawful m → (ss : Schemas) → Columns-plain ss → (e : Expr) (t : DType) (s : ℕ) → typed m ss e ≡ Some t → t .kind ≡ kind.Row s → t .nullable ≡ false
 unfolding fn-type
 row-solid m law ss plain e t s p k = ap (λ (z : DType). z .nullable) (sym (some-same (ap (typed m ss) (sym (rows-are-roots m law ss plain e t s p k)) ∙ p)))
 
-pub item-solid : (m : Meaning) → Lawful m → (ss : Schemas) → Columns-plain ss → (es : Exprs) (ts : List DType) → typed-all m ss es ≡ Some ts → (u : DType) (s : ℕ) → ts ≡ u ∷ [] → u .kind ≡ Row s → u .nullable ≡ false
+pub item-solid : (m : Meaning) → Lawful m → (ss : Schemas) → Columns-plain ss → (es : Exprs) (ts : List DType) → typed-all m ss es ≡ Some ts → (u : DType) (s : ℕ) → ts ≡ u ∷ [] → u .kind ≡ kind.Row s → u .nullable ≡ false
 item-solid m law ss plain es ts p u s e k = let (d, ds, j, a, b) = typed-cons m ss es u [] (rw e at p) in row-solid m law ss plain d u s a k
 
 module _ (m : Meaning) (law : Lawful m) (ss : Schemas) (r : Env) (ok : Env-fits ss r) (safe : Safe) (sl : Safe-law m safe) (plain : Columns-plain ss) where
-  fn-some : (f : Fn) (ts : List DType) (vs : List Value) (t : DType) → fn-type m ss f ts ≡ Some t → all-fit vs ts ≡ true → fn-safe safe f ts ≡ true → ((u : DType) (s : ℕ) → ts ≡ u ∷ [] → u .kind ≡ Row s → u .nullable ≡ false) → (v : Value) × (fn-value m r f vs ≡ value v)
+  fn-some : (f : Fn) (ts : List DType) (vs : List Value) (t : DType) → fn-type m ss f ts ≡ Some t → all-fit vs ts ≡ true → fn-safe safe f ts ≡ true → ((u : DType) (s : ℕ) → ts ≡ u ∷ [] → u .kind ≡ kind.Row s → u .nullable ≡ false) → (v : Value) × (fn-value m r f vs ≡ value v)
   unfolding fn-type fn-value
   fn-some (root s) ts vs t p q h o =
-      let (e, g) = nil-some _ ts t p in
+      let (e, g) = of-none-is _ ts t p in
       (whole s, ap (of-none (fault malformed) (value (whole s))) (fit-nil vs (rw e at q)))
   fn-some (literal s x) ts vs t p q h o =
-      let (e, g) = nil-opt _ ts t p in
+      let (e, g) = of-none-some _ ts t p in
       (x, ap (of-none (fault malformed) (value x)) (fit-nil vs (rw e at q)))
   fn-some (get-item n) ts vs t p q h o =
-      let (u, e, g) = one-some (λ t. item-type ss n (t .kind)) ts t p in
+      let (u, e, g) = of-one-some (λ t. item-type ss n (t .kind)) ts t p in
       let (w, k, j) = fit-one vs u (rw e at q) in
       let (z, i, _) = item-rowless ss plain n (u .kind) t g in
       rw k (item-some r n ss u t w (o u z e i) g j)
   fn-some (cast s) ts vs t p q h o =
-      let (u, e, g) = one-some (λ u. cast-type s u) ts t p in
+      let (u, e, g) = of-one-some (λ u. cast-type s u) ts t p in
       let (w, k, j) = fit-one vs u (rw e at q) in
       (w, ap (of-one (fault malformed) (λ (v : Value). value v)) k)
   fn-some (compare c) ts vs t p q h o =
-      let (s, u, e, g) = two-some compare-type ts t p in
+      let (s, u, e, g) = of-two-some compare-type ts t p in
       let (x, w, k, j, l) = fit-two vs s u (rw e at q) in
       rw k (compare-some c s u x w (rw e at h) j l)
   fn-some (compute a) ts vs t p q h o = false-true h
   fn-some (between w′) ts vs t p q h o =
-      let (s, u, i, e, g) = three-some between-type ts t p in
+      let (s, u, i, e, g) = of-three-some between-type ts t p in
       let (x, w, y, k, j, l, n) = fit-three vs s u i (rw e at q) in
       rw k (between-some w′ s u i t x w y g j l n)
   fn-some (call c) ts vs t p q h o = sl c ts t vs p h q
 
 mutual
-  pub has-value : (m : Meaning) → Lawful m → (ss : Schemas) (r : Env) → Env-fits ss r → (safe : Safe) → Safe-law m safe → Columns-plain ss → (e : Expr) (t : DType) → typed m ss e ≡ Some t → infallible m ss safe e ≡ true → (v : Value) × (eval m r e ≡ value v)
-  has-value m law ss r ok safe sl plain (logic o a b) t p h =
-      let (ta, pa, p1) = obind-some (typed m ss a) _ t p in
-      let (tb, pb, p2) = obind-some (typed m ss b) _ t p1 in
+  pub infallible-has-value : (m : Meaning) → Lawful m → (ss : Schemas) (r : Env) → Env-fits ss r → (safe : Safe) → Safe-law m safe → Columns-plain ss → (e : Expr) (t : DType) → typed m ss e ≡ Some t → infallible m ss safe e ≡ true → (v : Value) × (eval m r e ≡ value v)
+  infallible-has-value m law ss r ok safe sl plain (logic o a b) t p h =
+      let (ta, pa, p1) = and-then-some (typed m ss a) _ t p in
+      let (tb, pb, p2) = and-then-some (typed m ss b) _ t p1 in
       let (ha, hb) = and-parts _ _ h in
-      let (v, x) = has-value m law ss r ok safe sl plain a ta pa ha in
-      let (w, y) = has-value m law ss r ok safe sl plain b tb pb hb in
+      let (v, x) = infallible-has-value m law ss r ok safe sl plain a ta pa ha in
+      let (w, y) = infallible-has-value m law ss r ok safe sl plain b tb pb hb in
       (kleene o v w, simp (x, y))
-  has-value m law ss r ok safe sl plain (node f es) t p h =
-      let (ts, ps, p1) = obind-some (typed-all m ss es) _ t p in
+  infallible-has-value m law ss r ok safe sl plain (node f es) t p h =
+      let (ts, ps, p1) = and-then-some (typed-all m ss es) _ t p in
       let (hf, hs) = and-parts _ _ h in
       let (vs, x) = have-values m law ss r ok safe sl plain es ts ps hs in
       let g : fn-safe safe f ts ≡ true = ap (with-types safe f) (sym ps) ∙ hf in
-      let (v, y) = fn-some m law ss r ok safe sl plain f ts vs t p1 (sounds m law ss r ok es ts vs ps x) g (item-solid m law ss plain es ts ps) in
+      let (v, y) = fn-some m law ss r ok safe sl plain f ts vs t p1 (all-values-fit m law ss r ok es ts vs ps x) g (item-solid m law ss plain es ts ps) in
       (v, simp x y)
 
   have-values : (m : Meaning) → Lawful m → (ss : Schemas) (r : Env) → Env-fits ss r → (safe : Safe) → Safe-law m safe → Columns-plain ss → (es : Exprs) (ts : List DType) → typed-all m ss es ≡ Some ts → infallibles m ss safe es ≡ true → (vs : List Value) × (evals m r es ≡ value vs)
   have-values m law ss r ok safe sl plain nil ts p h = ([], refl)
   have-values m law ss r ok safe sl plain (cons e es) ts p h =
-      let (ta, pa, p1) = obind-some (typed m ss e) _ ts p in
-      let (tb, pb, p2) = obind-some (typed-all m ss es) _ ts p1 in
+      let (ta, pa, p1) = and-then-some (typed m ss e) _ ts p in
+      let (tb, pb, p2) = and-then-some (typed-all m ss es) _ ts p1 in
       let (ha, hb) = and-parts _ _ h in
-      let (v, x) = has-value m law ss r ok safe sl plain e ta pa ha in
+      let (v, x) = infallible-has-value m law ss r ok safe sl plain e ta pa ha in
       let (vs, y) = have-values m law ss r ok safe sl plain es tb pb hb in
       (v ∷ vs, simp (x, y))

@@ -1,40 +1,41 @@
 -- The rules keep the type, and the value wherever there is one.
-use mathlib.Core.Path.{_≡_, refl, ap, sym, subst, _∙_}
+use mathlib.Core.Bool.{Bool, true, false, cond, not, _||_}
 use mathlib.Core.List.{List, [], _∷_}
-use mathlib.Core.Logic.{_⊎_, inl, inr}
-use mathlib.Core.Bool.{Bool, true, false, cond, not, _&&_, _||_}
-use Prim.Native.Nat.{ℕ, zero, suc, _+_, _-_, _*_, _/_, _<_, _≤_}
+use mathlib.Core.Path.{_≡_, refl, ap, sym, subst, _∙_}
+use Prim.Native.Nat.{ℕ, zero, suc}
 use native.Mathlib.Omega.{arith}
-use Rattle.std.proofs.shelf.Ways.{tells}
-use Rattle.std.proofs.shelf.Tests.{and-parts, and-from}
-use Rattle.vocabulary.specs.declared.types.DType.{DType}
-use Rattle.vocabulary.specs.declared.types.Kind.{Kind}
-use Rattle.vocabulary.specs.declared.types.Kind.the-variants.{Bool as KBool, I64, U64, Utf8, Extension, Row}
+use Rattle.std.proofs.shelf.Tests.{and-parts}
 use Rattle.std.specs.declared.option.Option.{Option}
 use Rattle.std.specs.declared.option.Option.the-variants.{Some, None}
-use Rattle.meaning.proofs.Tools.{none-some, some-none, fault-value, false-true, some-same, value-same, obind-some, omap-some, then-value, cond-some, settled-some, settled-then, nil-some, nil-opt, one-some, two-some, three-some}
-use Rattle.meaning.proofs.Kleene.{kleene-comm}
-use Rattle.meaning.proofs.Sound.{sound, sounds, is-bool, bool-value, null-fits, cast-same}
-use Rattle.meaning.specs.Outcomes.{Outcome, value, fault, and-then, then, settled, malformed}
-use Rattle.std.specs.Options.{mapped, orOther}
-use Rattle.meaning.specs.Lists.{of-one, of-two, of-three, of-none, nth, picks}
-use Rattle.vocabulary.specs.Types.{sameKind, plainKind}
-use Rattle.meaning.specs.Values.{boolean, Value, null, bool, signed, unsigned, text, ext, whole, fits, all-fit, is-null}
+use Rattle.vocabulary.specs.Types.{sameKind}
+use Rattle.vocabulary.specs.declared.operators.CompareOperator.{CompareOperator}
 use Rattle.vocabulary.specs.declared.operators.Connective.{Connective}
 use Rattle.vocabulary.specs.declared.operators.Connective.the-variants.{And, Or}
-use Rattle.meaning.specs.Kleene.{kleene-table, kleene, truth, of-truth, decides, deciding, lut}
-use Rattle.vocabulary.specs.declared.operators.CompareOperator.{CompareOperator}
-use Rattle.meaning.specs.Comparing.{compares}
-use Rattle.meaning.specs.Hosts.{Meaning, Answer, nothing, child, constant, other, host-type, host-value}
-use Rattle.meaning.specs.Lawful.{Lawful, Agree, answer-type, answer-value}
+use Rattle.vocabulary.specs.declared.types.DType.{DType}
+use Rattle.vocabulary.specs.declared.types.Kind.{Kind}
+use Rattle.vocabulary.specs.declared.types.Kind.the-variants as kind
 use Rattle.meaning.specs.Columns.{Schemas}
-use Rattle.meaning.specs.Evaluating.{Env, Env-fits, eval, evals, fn-value}
-use Rattle.meaning.specs.Trees.{Fn, root, literal, get-item, cast, compare, compute, between, call, Expr, logic, node, Exprs, nil, cons, nth-child}
-use Rattle.meaning.specs.Typing.{typed, typed-all, fn-type, logic-type, compare-type, cast-type}
-use Rattle.meaning.specs.Literals.{fn-literal, literal-of, literals-of, lit, Seen, sees-truth, sees-null, sees-other, seen-value, seen-of, seen, is-null-literal, has-null-literal}
-use Rattle.meaning.specs.Rules.{nullable-of, nullable, widen, widen-as, drop-truth, simplify-logic, reduce-logic, pick-children, answer-tree, host-rule, simplify-node, simplify, reduce}
-use Rattle.meaning.specs.Optimizing.{or-itself, round-by, round, rounds-step, rounds, map-all, map-children, optimize}
-use Rattle.meaning.specs.LawsOfRules.{Refines}
+use Rattle.meaning.specs.Comparing.{compares}
+use Rattle.meaning.specs.Evaluating.{Env, Env-fits, fn-value, eval, evals}
+use Rattle.meaning.specs.Hosts.{Answer, nothing, child, constant, other, Meaning, host-value, host-type}
+use Rattle.meaning.specs.Kleene.{lut, decides, deciding, truth, of-truth, kleene}
+use Rattle.meaning.specs.Lawful.{Agree, answer-type, answer-value, Lawful}
+use Rattle.meaning.specs.LawsOfRules.{Refines, Reduce-keeps}
+use Rattle.meaning.specs.Lists.{of-one, of-two, nth, picks}
+use Rattle.meaning.specs.Literals.{lit, fn-literal, literal-of, literals-of, is-null-literal, has-null-literal, Seen}
+use Rattle.meaning.specs.Literals.{sees-truth, sees-null, sees-other, seen-of, seen}
+use Rattle.meaning.specs.Optimizing.{or-itself, round-by, round}
+use Rattle.meaning.specs.Outcomes.{malformed, Outcome, value, fault, then, settled, and-then}
+use Rattle.meaning.specs.Rules.{nullable-of, nullable, widen-as, widen, drop-truth, simplify-logic, reduce-logic}
+use Rattle.meaning.specs.Rules.{pick-children, answer-tree, host-rule, simplify, reduce}
+use Rattle.meaning.specs.Trees.{Fn, root, literal, get-item, cast, compare, compute, between, call, Expr, logic, node}
+use Rattle.meaning.specs.Trees.{Exprs, nil, cons, nth-child}
+use Rattle.meaning.specs.Typing.{compare-type, fn-type, typed, typed-all}
+use Rattle.meaning.specs.Values.{Value, null, bool, boolean, is-null, fits}
+use Rattle.meaning.proofs.CaseSplits.{none-some, fault-value, false-true, some-same, value-same, and-then-some}
+use Rattle.meaning.proofs.CaseSplits.{mapped-some, cond-some, then-value, settled-some, settled-then, of-two-some}
+use Rattle.meaning.proofs.KleeneLaws.{kleene-commutes}
+use Rattle.meaning.proofs.Sound.{is-bool, bool-value, cast-same, values-fit, all-values-fit}
 
 -- ── literals ──
 fn-literal-inv : (f : Fn) (es : Exprs) (v : Value) → fn-literal f es ≡ Some v → (t : DType) × (node f es ≡ lit t v)
@@ -98,7 +99,7 @@ module _ (m : Meaning) (ss : Schemas) (r : Env) where
       let (t, i) = literal-inv e v l in
       let (j, f) = lit-typed m ss t (boolean k) v (rw i at p) in
       let g : fits v (boolean k) ≡ true = subst (λ (z : DType). fits v z ≡ true) j f in
-      (lit-bool m ss n v (cast-same KBool n k v q g), lit-eval m r (boolean n) v ∙ sym (lit-eval m r t v) ∙ ap (eval m r) (sym i))
+      (lit-bool m ss n v (cast-same kind.Bool n k v q g), lit-eval m r (boolean n) v ∙ sym (lit-eval m r t v) ∙ ap (eval m r) (sym i))
 
   widen-by : (n k : Bool) (e : Expr) (l : Option Value) → literal-of e ≡ l → typed m ss e ≡ Some (boolean k) → (n || not k) ≡ true → (typed m ss (widen-as n k e l) ≡ Some (boolean n)) × (eval m r (widen-as n k e l) ≡ eval m r e)
   widen-by n k e None i p q = widen-none n k e p q
@@ -122,10 +123,10 @@ module _ (m : Meaning) (law : Lawful m) (ss : Schemas) (r : Env) (ok : Env-fits 
   drop-by o x n k e true d p q = (lit-bool m ss n (bool (deciding o)) refl, λ w i. lit-eval m r (boolean n) (bool (deciding o)) ∙ ap value (decided o x w d))
   drop-by o x n k e false d p q =
       let (a, b) = widen-same m ss r n k e p q in
-      (a, λ w i. b ∙ i ∙ ap value (sym (bool-value w (boolean k) refl (sound m law ss r ok e (boolean k) w p i)) ∙ neutral o x w d))
+      (a, λ w i. b ∙ i ∙ ap value (sym (bool-value w (boolean k) refl (values-fit m law ss r ok e (boolean k) w p i)) ∙ neutral o x w d))
 
-  drop-better : (o : Connective) (x n k : Bool) (e : Expr) → typed m ss e ≡ Some (boolean k) → (n || not k) ≡ true → (typed m ss (drop-truth o x n k e) ≡ Some (boolean n)) × ((w : Value) → eval m r e ≡ value w → eval m r (drop-truth o x n k e) ≡ value (kleene o (bool x) w))
-  drop-better o x n k e p q = drop-by o x n k e (decides o x) refl p q
+  drop-refines : (o : Connective) (x n k : Bool) (e : Expr) → typed m ss e ≡ Some (boolean k) → (n || not k) ≡ true → (typed m ss (drop-truth o x n k e) ≡ Some (boolean n)) × ((w : Value) → eval m r e ≡ value w → eval m r (drop-truth o x n k e) ≡ value (kleene o (bool x) w))
+  drop-refines o x n k e p q = drop-by o x n k e (decides o x) refl p q
 
 literal-eval : (m : Meaning) (r : Env) (e : Expr) (v : Value) → literal-of e ≡ Some v → eval m r e ≡ value v
 literal-eval m r e v p = let (t, i) = literal-inv e v p in ap (eval m r) i ∙ lit-eval m r t v
@@ -136,7 +137,7 @@ or-first a b = grind arith
 or-second : (a b : Bool) → ((a || b) || not b) ≡ true
 or-second a b = grind arith
 
-pub bool-type : (t : DType) → sameKind KBool (t .kind) ≡ true → t ≡ boolean (t .nullable)
+pub bool-type : (t : DType) → sameKind kind.Bool (t .kind) ≡ true → t ≡ boolean (t .nullable)
 bool-type t p = ap (λ (k : Kind). record { kind = k; nullable = t .nullable }) (is-bool (t .kind) p)
 
 module _ (m : Meaning) (law : Lawful m) (ss : Schemas) (r : Env) (ok : Env-fits ss r) where
@@ -145,15 +146,15 @@ module _ (m : Meaning) (law : Lawful m) (ss : Schemas) (r : Env) (ok : Env-fits 
 
   left-bit : (o : Connective) (a b d : Expr) (ka kb x : Bool) → typed m ss b ≡ Some (boolean kb) → seen a ≡ sees-truth x → drop-truth o x (ka || kb) kb b ≡ d → Kept o (ka || kb) a b d
   left-bit o a b d ka kb x pb sa i =
-      let (p, q) = drop-better m law ss r ok o x (ka || kb) kb b pb (or-second ka kb) in
+      let (p, q) = drop-refines m law ss r ok o x (ka || kb) kb b pb (or-second ka kb) in
       let j = literal-eval m r a (bool x) (seen-bit (literal-of a) x sa) in
       rw (← i) (p, λ v w ea eb. q w eb ∙ ap (λ (z : Value). value (kleene o z w)) (value-same (sym j ∙ ea)))
 
   right-bit : (o : Connective) (a b d : Expr) (ka kb y : Bool) → typed m ss a ≡ Some (boolean ka) → seen b ≡ sees-truth y → drop-truth o y (ka || kb) ka a ≡ d → Kept o (ka || kb) a b d
   right-bit o a b d ka kb y pa sb i =
-      let (p, q) = drop-better m law ss r ok o y (ka || kb) ka a pa (or-first ka kb) in
+      let (p, q) = drop-refines m law ss r ok o y (ka || kb) ka a pa (or-first ka kb) in
       let j = literal-eval m r b (bool y) (seen-bit (literal-of b) y sb) in
-      rw (← i) (p, λ v w ea eb. q v ea ∙ ap value (kleene-comm o (bool y) v ∙ ap (kleene o v) (value-same (sym j ∙ eb))))
+      rw (← i) (p, λ v w ea eb. q v ea ∙ ap value (kleene-commutes o (bool y) v ∙ ap (kleene o v) (value-same (sym j ∙ eb))))
 
   both-null : (o : Connective) (a b d : Expr) (ka kb : Bool) → typed m ss a ≡ Some (boolean ka) → seen a ≡ sees-null → seen b ≡ sees-null → widen (ka || kb) ka a ≡ d → Kept o (ka || kb) a b d
   both-null o a b d ka kb pa sa sb i =
@@ -171,11 +172,11 @@ module _ (m : Meaning) (law : Lawful m) (ss : Schemas) (r : Env) (ok : Env-fits 
   simplify-kept o a b d ka kb sees-other sees-null pa pb sa sb h = none-some d h
   simplify-kept o a b d ka kb sees-other sees-other pa pb sa sb h = none-some d h
 
-  simplify-logic-better : (o : Connective) (a b d : Expr) (t : DType) → typed m ss (logic o a b) ≡ Some t → simplify m ss (logic o a b) ≡ Some d → Refines m ss r t (logic o a b) d
+  logic-refines : (o : Connective) (a b d : Expr) (t : DType) → typed m ss (logic o a b) ≡ Some t → simplify m ss (logic o a b) ≡ Some d → Refines m ss r t (logic o a b) d
   unfolding simplify
-  simplify-logic-better o a b d t p h =
-      let (ta, pa, p1) = obind-some (typed m ss a) _ t p in
-      let (tb, pb, p2) = obind-some (typed m ss b) _ t p1 in
+  logic-refines o a b d t p h =
+      let (ta, pa, p1) = and-then-some (typed m ss a) _ t p in
+      let (tb, pb, p2) = and-then-some (typed m ss b) _ t p1 in
       let (c, e) = cond-some _ _ _ p2 in
       let (ca, cb) = and-parts _ _ c in
       let qa : typed m ss a ≡ Some (boolean (ta .nullable)) = pa ∙ ap Some (bool-type ta ca) in
@@ -210,8 +211,8 @@ or-mono false b false d f g p = g p
 nulls-typed : (m : Meaning) (ss : Schemas) (es : Exprs) (ts : List DType) → has-null-literal es ≡ true → typed-all m ss es ≡ Some ts → any-nullable ts ≡ true
 nulls-typed m ss nil ts h p = false-true h
 nulls-typed m ss (cons e es) ts h p =
-    let (ta, pa, p1) = obind-some (typed m ss e) _ ts p in
-    let (tb, pb, p2) = obind-some (typed-all m ss es) _ ts p1 in
+    let (ta, pa, p1) = and-then-some (typed m ss e) _ ts p in
+    let (tb, pb, p2) = and-then-some (typed-all m ss es) _ ts p1 in
     subst (λ (z : List DType). any-nullable z ≡ true) (some-same p2) (or-mono _ _ _ _ (λ k. null-typed m ss e ta k pa) (λ k. nulls-typed m ss es tb k pb) h)
 
 nulls-eval : (m : Meaning) (r : Env) (es : Exprs) (vs : List Value) → has-null-literal es ≡ true → evals m r es ≡ value vs → any-null vs ≡ true
@@ -231,29 +232,29 @@ compare-null c (x ∷ (y ∷ [])) v p q = value-same (rw (or-end (is-null x) (is
 compare-null c (x ∷ (y ∷ (z ∷ vs))) v p q = fault-value malformed v q
 
 module _ (m : Meaning) (law : Lawful m) (ss : Schemas) (r : Env) (ok : Env-fits ss r) where
-  compare-better : (c : CompareOperator) (es : Exprs) (t : DType) → has-null-literal es ≡ true → typed m ss (node (compare c) es) ≡ Some t → Refines m ss r t (node (compare c) es) (lit (boolean true) null)
+  null-compare-refines : (c : CompareOperator) (es : Exprs) (t : DType) → has-null-literal es ≡ true → typed m ss (node (compare c) es) ≡ Some t → Refines m ss r t (node (compare c) es) (lit (boolean true) null)
   unfolding fn-type fn-value
-  compare-better c es t h p =
-      let (ts, ps, p1) = obind-some (typed-all m ss es) _ t p in
-      let (ta, tb, e, p2) = two-some compare-type ts t p1 in
+  null-compare-refines c es t h p =
+      let (ts, ps, p1) = and-then-some (typed-all m ss es) _ t p in
+      let (ta, tb, e, p2) = of-two-some compare-type ts t p1 in
       let (g, i) = cond-some _ _ _ p2 in
       let k : (ta .nullable || tb .nullable) ≡ true = or-end (ta .nullable) (tb .nullable) (rw e at (nulls-typed m ss es ts h ps)) in
       (ap (λ (z : Bool). Some (boolean z)) (sym k) ∙ ap Some i, λ v q. let (vs, qs, q1) = then-value (evals m r es) _ v q in ap value (compare-null c vs v (nulls-eval m r es vs h qs) q1))
 
   compare-by : (c : CompareOperator) (es : Exprs) (t : DType) (d : Expr) (b : Bool) → has-null-literal es ≡ b → cond b (Some (lit (boolean true) null)) None ≡ Some d → typed m ss (node (compare c) es) ≡ Some t → Refines m ss r t (node (compare c) es) d
-  compare-by c es t d true h k p = subst (λ (z : Expr). Refines m ss r t (node (compare c) es) z) (some-same k) (compare-better c es t h p)
+  compare-by c es t d true h k p = subst (λ (z : Expr). Refines m ss r t (node (compare c) es) z) (some-same k) (null-compare-refines c es t h p)
   compare-by c es t d false h k p = none-some d k
 
 -- ── a host's rule ──
 nth-typed : (m : Meaning) (ss : Schemas) (es : Exprs) (ts : List DType) (i : ℕ) (d : Expr) → typed-all m ss es ≡ Some ts → nth-child es i ≡ Some d → typed m ss d ≡ nth ts i
 nth-typed m ss nil ts i d p q = none-some d q
 nth-typed m ss (cons e es) ts zero d p q =
-    let (ta, pa, p1) = obind-some (typed m ss e) _ ts p in
-    let (tb, pb, p2) = obind-some (typed-all m ss es) _ ts p1 in
+    let (ta, pa, p1) = and-then-some (typed m ss e) _ ts p in
+    let (tb, pb, p2) = and-then-some (typed-all m ss es) _ ts p1 in
     ap (typed m ss) (sym (some-same q)) ∙ pa ∙ ap (λ (z : List DType). nth z zero) (some-same p2)
 nth-typed m ss (cons e es) ts (suc i) d p q =
-    let (ta, pa, p1) = obind-some (typed m ss e) _ ts p in
-    let (tb, pb, p2) = obind-some (typed-all m ss es) _ ts p1 in
+    let (ta, pa, p1) = and-then-some (typed m ss e) _ ts p in
+    let (tb, pb, p2) = and-then-some (typed-all m ss es) _ ts p1 in
     nth-typed m ss es tb i d pb q ∙ ap (λ (z : List DType). nth z (suc i)) (some-same p2)
 
 nth-eval : (m : Meaning) (r : Env) (es : Exprs) (vs : List Value) (i : ℕ) (d : Expr) → evals m r es ≡ value vs → nth-child es i ≡ Some d → settled (eval m r d) ≡ nth vs i
@@ -270,8 +271,8 @@ nth-eval m r (cons e es) vs (suc i) d p q =
 pick-typed : (m : Meaning) (ss : Schemas) (es : Exprs) (ts : List DType) (is : List ℕ) (ds : Exprs) → typed-all m ss es ≡ Some ts → pick-children es is ≡ Some ds → typed-all m ss ds ≡ picks ts is
 pick-typed m ss es ts [] ds p q = ap (typed-all m ss) (sym (some-same q))
 pick-typed m ss es ts (i ∷ is) ds p q =
-    let (d, a, q1) = obind-some (nth-child es i) _ ds q in
-    let (rest, b, q2) = obind-some (pick-children es is) _ ds q1 in
+    let (d, a, q1) = and-then-some (nth-child es i) _ ds q in
+    let (rest, b, q2) = and-then-some (pick-children es is) _ ds q1 in
     ap (typed-all m ss) (sym (some-same q2)) ∙ simp (nth-typed m ss es ts i d p a, pick-typed m ss es ts is rest p b)
 
 settled-cons : (x : Outcome Value) (y : Outcome (List Value)) → settled (then x (λ (v : Value). then y (λ (vs : List Value). value (v ∷ vs)))) ≡ and-then (settled x) (λ (v : Value). and-then (settled y) (λ (vs : List Value). Some (v ∷ vs)))
@@ -282,8 +283,8 @@ settled-cons (fault x) y = refl
 pick-eval : (m : Meaning) (r : Env) (es : Exprs) (vs : List Value) (is : List ℕ) (ds : Exprs) → evals m r es ≡ value vs → pick-children es is ≡ Some ds → settled (evals m r ds) ≡ picks vs is
 pick-eval m r es vs [] ds p q = ap (λ (z : Exprs). settled (evals m r z)) (sym (some-same q))
 pick-eval m r es vs (i ∷ is) ds p q =
-    let (d, a, q1) = obind-some (nth-child es i) _ ds q in
-    let (rest, b, q2) = obind-some (pick-children es is) _ ds q1 in
+    let (d, a, q1) = and-then-some (nth-child es i) _ ds q in
+    let (rest, b, q2) = and-then-some (pick-children es is) _ ds q1 in
     ap (λ (z : Exprs). settled (evals m r z)) (sym (some-same q2)) ∙ settled-cons (eval m r d) (evals m r rest) ∙ simp (nth-eval m r es vs i d p a, pick-eval m r es vs is rest p b)
 
 agree-cons : (l : Option Value) (ls : List (Option Value)) (v : Value) (vs : List Value) → ((w : Value) → l ≡ Some w → v ≡ w) → Agree ls vs → Agree (l ∷ ls) (v ∷ vs)
@@ -308,31 +309,31 @@ module _ (m : Meaning) (law : Lawful m) (ss : Schemas) (r : Env) (ok : Env-fits 
   answer-stands c es ts t d (child i) p a f q = (nth-typed m ss es ts i d p q ∙ a, λ vs v g h. settled-some (eval m r d) v (nth-eval m r es vs i d g q ∙ f vs v g h))
   answer-stands c es ts t d (constant w) p a f q = subst (λ (z : Expr). Stands t ts es c z) (some-same q) (a, λ vs v g h. ap value (some-same (f vs v g h)))
   answer-stands c es ts t d (other k is) p a f q =
-      let (ds, b, e) = omap-some (node (call k)) (pick-children es is) d q in
+      let (ds, b, e) = mapped-some (node (call k)) (pick-children es is) d q in
       subst (λ (z : Expr). Stands t ts es c z) e (ap (λ (z : Option (List DType)). and-then z (host-type m k)) (pick-typed m ss es ts is ds p b) ∙ a, λ vs v g h. settled-some (then (evals m r ds) (host-value m k)) v (settled-then (evals m r ds) (host-value m k) ∙ ap (λ (z : Option (List Value)). and-then z (λ (ws : List Value). settled (host-value m k ws))) (pick-eval m r es vs is ds g b) ∙ f vs v g h))
 
-  host-better : (c : ℕ) (es : Exprs) (t : DType) (d : Expr) → typed m ss (node (call c) es) ≡ Some t → host-rule m ss c es ≡ Some d → Refines m ss r t (node (call c) es) d
+  host-rule-refines : (c : ℕ) (es : Exprs) (t : DType) (d : Expr) → typed m ss (node (call c) es) ≡ Some t → host-rule m ss c es ≡ Some d → Refines m ss r t (node (call c) es) d
   unfolding fn-type fn-value
-  host-better c es t d p h =
-      let (us, b, h1) = obind-some (typed-all m ss es) _ d h in
-      let (u, a, h2) = obind-some (typed m ss (node (call c) es)) _ d h1 in
+  host-rule-refines c es t d p h =
+      let (us, b, h1) = and-then-some (typed-all m ss es) _ d h in
+      let (u, a, h2) = and-then-some (typed m ss (node (call c) es)) _ d h1 in
       let e : u ≡ t = some-same (sym a ∙ p) in
       let k : host-type m c us ≡ Some t = ap (λ (z : Option (List DType)). and-then z (host-type m c)) (sym b) ∙ p in
       let g : answer-tree t es (m .rule c us (literals-of es)) ≡ Some d = rw e at h2 in
-      let (x, y) = answer-stands c es us t d (m .rule c us (literals-of es)) b (law .rule-type c us t (literals-of es) k) (λ vs v i j. law .rule-value c us t (literals-of es) vs v k (sounds m law ss r ok es us vs b i) (agrees m r es vs i) j) g in
+      let (x, y) = answer-stands c es us t d (m .rule c us (literals-of es)) b (law .rule-type c us t (literals-of es) k) (λ vs v i j. law .rule-value c us t (literals-of es) vs v k (all-values-fit m law ss r ok es us vs b i) (agrees m r es vs i) j) g in
       (x, λ v q. let (vs, qs, q1) = then-value (evals m r es) _ v q in y vs v qs q1)
 
-  pub simplify-better : (e d : Expr) (t : DType) → typed m ss e ≡ Some t → simplify m ss e ≡ Some d → Refines m ss r t e d
+  pub simplify-keeps : (e d : Expr) (t : DType) → typed m ss e ≡ Some t → simplify m ss e ≡ Some d → Refines m ss r t e d
   unfolding simplify
-  simplify-better (logic o a b) d t p h = simplify-logic-better m law ss r ok o a b d t p h
-  simplify-better (node (root s) es) d t p h = none-some d h
-  simplify-better (node (literal s v) es) d t p h = none-some d h
-  simplify-better (node (get-item n) es) d t p h = none-some d h
-  simplify-better (node (cast s) es) d t p h = none-some d h
-  simplify-better (node (compare c) es) d t p h = compare-by m law ss r ok c es t d (has-null-literal es) refl h p
-  simplify-better (node (compute o) es) d t p h = none-some d h
-  simplify-better (node (between o) es) d t p h = none-some d h
-  simplify-better (node (call c) es) d t p h = host-better c es t d p h
+  simplify-keeps (logic o a b) d t p h = logic-refines m law ss r ok o a b d t p h
+  simplify-keeps (node (root s) es) d t p h = none-some d h
+  simplify-keeps (node (literal s v) es) d t p h = none-some d h
+  simplify-keeps (node (get-item n) es) d t p h = none-some d h
+  simplify-keeps (node (cast s) es) d t p h = none-some d h
+  simplify-keeps (node (compare c) es) d t p h = compare-by m law ss r ok c es t d (has-null-literal es) refl h p
+  simplify-keeps (node (compute o) es) d t p h = none-some d h
+  simplify-keeps (node (between o) es) d t p h = none-some d h
+  simplify-keeps (node (call c) es) d t p h = host-rule-refines c es t d p h
 
 -- ── reduce answers as simplify does ──
 pub bit-widen : (n k : Bool) (b : Expr) (y : Bool) → seen b ≡ sees-truth y → widen n k b ≡ lit (boolean n) (bool y)
@@ -370,14 +371,17 @@ better-self m ss r t a p = (p, λ v q. q)
 module _ (m : Meaning) (law : Lawful m) (ss : Schemas) (r : Env) (ok : Env-fits ss r) where
   or-itself-better : (t : DType) (a d : Expr) (x : Option Expr) → reduce m ss d ≡ x → typed m ss d ≡ Some t → Refines m ss r t d (or-itself d x)
   or-itself-better t a d None e p = better-self m ss r t d p
-  or-itself-better t a d (Some c) e p = simplify-better m law ss r ok d c t p (reduce-simplify m ss d c e)
+  or-itself-better t a d (Some c) e p = simplify-keeps m law ss r ok d c t p (reduce-simplify m ss d c e)
 
   round-by-better : (t : DType) (e d : Expr) (x : Option Expr) → simplify m ss e ≡ x → typed m ss e ≡ Some t → round-by x (reduce m ss) e ≡ Some d → Refines m ss r t e d
-  round-by-better t e d None i p h = simplify-better m law ss r ok e d t p (reduce-simplify m ss e d h)
+  round-by-better t e d None i p h = simplify-keeps m law ss r ok e d t p (reduce-simplify m ss e d h)
   round-by-better t e d (Some c) i p h =
-      let f = simplify-better m law ss r ok e c t p i in
+      let f = simplify-keeps m law ss r ok e c t p i in
       subst (λ (z : Expr). Refines m ss r t e z) (some-same h) (better-then m ss r t e c (or-itself c (reduce m ss c)) f (or-itself-better t e c (reduce m ss c) refl (f .0)))
 
-  pub round-better : (e d : Expr) (t : DType) → typed m ss e ≡ Some t → round m ss e ≡ Some d → Refines m ss r t e d
+  pub round-keeps : (e d : Expr) (t : DType) → typed m ss e ≡ Some t → round m ss e ≡ Some d → Refines m ss r t e d
   unfolding round
-  round-better e d t p h = round-by-better t e d (simplify m ss e) refl p h
+  round-keeps e d t p h = round-by-better t e d (simplify m ss e) refl p h
+
+pub reduce-keeps : Reduce-keeps
+reduce-keeps m law ss r ok e d t p h = simplify-keeps m law ss r ok e d t p (reduce-simplify m ss e d h)

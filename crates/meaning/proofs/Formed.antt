@@ -1,50 +1,35 @@
-use mathlib.Core.Path.{_≡_, refl, ap, sym, subst, _∙_}
+-- x
+use mathlib.Core.Bool.{Bool, true, false, cond, _||_}
 use mathlib.Core.List.{List, [], _∷_}
-use mathlib.Core.Logic.{_⊎_, inl, inr}
-use mathlib.Core.Bool.{Bool, true, false, cond, not, _&&_, _||_}
-use Prim.Native.Nat.{ℕ, zero, suc, _+_, _-_, _*_, _/_, _<_, _≤_}
+use mathlib.Core.Path.{_≡_, refl, ap, sym, _∙_}
+use Prim.Native.Nat.{ℕ, zero, suc, _<_}
 use native.Mathlib.Omega.{arith}
-use lib.IntN.{ℤ, pos, negsuc, _+ℤ_, _-ℤ_, _*ℤ_}
-use lib.Dec.{eqb, ltb}
-use Rattle.std.proofs.shelf.Ways.{tells}
-use Rattle.std.proofs.shelf.Tests.{and-parts, and-from}
-use Rattle.vocabulary.specs.declared.types.DType.{DType}
-use Rattle.vocabulary.specs.declared.types.Kind.{Kind}
-use Rattle.vocabulary.specs.declared.types.Kind.the-variants.{Bool as KBool, I64, U64, Utf8, Extension, Row}
-use Rattle.std.specs.declared.option.Option.{Option}
-use Rattle.std.specs.declared.option.Option.the-variants.{Some, None}
-use Rattle.meaning.proofs.Tools.{none-some, some-none, fault-value, false-true, some-same, value-same, obind-some, then-value, cond-some, nil-some, nil-opt, one-some, two-some, three-some}
-use Rattle.meaning.proofs.Rows.{rows-are-roots, typed-cons, item-rowless}
-use Rattle.meaning.proofs.Sound.{sound, sounds, like-same, is-row, fit-nil, fit-one, fit-two, fit-three}
-use Rattle.meaning.specs.Outcomes.{Outcome, value, fault, and-then, then, settled, malformed, unlike}
-use Rattle.std.specs.Options.{mapped, orOther}
-use Rattle.meaning.specs.Lists.{of-one, of-two, of-three, of-none, nth, picks}
-use Rattle.vocabulary.specs.Types.{sameKind, plainKind}
-use Rattle.meaning.specs.Values.{boolean, Value, null, bool, signed, unsigned, text, ext, whole, fits, all-fit, in-i64, is-null, kind-of}
-use Rattle.vocabulary.specs.declared.operators.Connective.{Connective}
-use Rattle.vocabulary.specs.declared.operators.Connective.the-variants.{And, Or}
-use Rattle.meaning.specs.Kleene.{kleene-table, kleene, truth, of-truth}
-use Rattle.vocabulary.specs.declared.operators.CompareOperator.{CompareOperator}
-use Rattle.vocabulary.specs.declared.operators.CompareOperator.the-variants.{Lt, Lte}
-use Rattle.vocabulary.specs.declared.operators.BetweenOptions.{BetweenOptions}
-use Rattle.meaning.specs.Comparing.{bound-operator, compares, lies-between, alike, holds}
-use Rattle.vocabulary.specs.declared.operators.Arithmetic.{Arithmetic}
-use Rattle.vocabulary.specs.declared.operators.Arithmetic.the-variants.{Add, Sub, Mul, Div}
-use Rattle.meaning.specs.Computing.{computes, with-signed, with-unsigned, compute-signed, compute-unsigned, signed-result, unsigned-result, magnitude, with-sign}
-use Rattle.meaning.specs.Hosts.{Meaning, host-type}
-use Rattle.meaning.specs.Lawful.{Lawful}
-use Rattle.meaning.specs.Columns.{Schemas, column-type, Columns-plain}
-use Rattle.meaning.specs.Evaluating.{Env, Env-fits, eval, evals, fn-value, item-value}
-use Rattle.meaning.specs.Trees.{Fn, root, literal, get-item, cast, compare, compute, between, call, Expr, logic, node, Exprs, nil, cons}
-use Rattle.meaning.specs.Typing.{typed, typed-all, fn-type, item-type, logic-type, compare-type, compute-type, between-type, cast-type}
-use Rattle.meaning.specs.Infallible.{Safe, Safe-law, alike-types, fn-safe, with-types, infallible, infallibles}
-use Rattle.meaning.specs.Outcomes.{host, arithmetic}
-use Rattle.meaning.specs.Hosts.{host-value, reply-value, argument-value, constant-value, Reply, argument, plain, fails}
-use Rattle.meaning.specs.Lawful.{Names-arguments}
-use Rattle.meaning.specs.Lists.{nth}
 use lib.ListN.{length}
+use Rattle.std.specs.declared.option.Option.the-variants.{Some}
+use Rattle.vocabulary.specs.declared.operators.Arithmetic.{Arithmetic}
+use Rattle.vocabulary.specs.declared.operators.BetweenOptions.{BetweenOptions}
+use Rattle.vocabulary.specs.declared.operators.CompareOperator.{CompareOperator}
+use Rattle.vocabulary.specs.declared.types.DType.{DType}
+use Rattle.vocabulary.specs.declared.types.Kind.the-variants as kind
+use Rattle.meaning.specs.Columns.{Schemas, Columns-plain}
+use Rattle.meaning.specs.Comparing.{holds, alike, compares, bound-operator, lies-between}
+use Rattle.meaning.specs.Computing.{compute-signed, compute-unsigned, computes}
+use Rattle.meaning.specs.Evaluating.{Env, Env-fits, fn-value, eval, evals}
+use Rattle.meaning.specs.Hosts.{Reply, argument, plain, fails, Meaning, argument-value, reply-value}
+use Rattle.meaning.specs.Lawful.{Lawful, Names-arguments}
 use Rattle.meaning.specs.LawsOfEvaluating.{Bound-trees-are-well-formed}
+use Rattle.meaning.specs.Lists.{of-none, nth}
+use Rattle.meaning.specs.Outcomes.{arithmetic, unlike, host, malformed, Outcome, value, fault, then}
+use Rattle.meaning.specs.Trees.{Fn, root, literal, get-item, cast, compare, compute, between, call, Expr, logic, node}
+use Rattle.meaning.specs.Trees.{Exprs, nil, cons}
+use Rattle.meaning.specs.Typing.{item-type, compare-type, compute-type, between-type, cast-type, fn-type, typed}
+use Rattle.meaning.specs.Typing.{typed-all}
+use Rattle.meaning.specs.Values.{Value, null, bool, whole, is-null, all-fit}
+use Rattle.meaning.proofs.CaseSplits.{false-true, and-then-some, of-none-is, of-none-some, of-one-some, of-two-some}
+use Rattle.meaning.proofs.CaseSplits.{of-three-some}
 use Rattle.meaning.proofs.Faulting.{item-some, item-solid}
+use Rattle.meaning.proofs.Rows.{item-rowless}
+use Rattle.meaning.proofs.Sound.{fit-nil, fit-one, fit-two, fit-three, all-values-fit}
 
 abbrev formed : {A : Type 0} → Outcome A → Bool
 formed (value a) = true
@@ -87,34 +72,34 @@ host-formed vs (plain k) n = refl
 host-formed vs (fails c) n = refl
 
 module _ (m : Meaning) (law : Lawful m) (na : Names-arguments m) (ss : Schemas) (r : Env) (ok : Env-fits ss r) (plainly : Columns-plain ss) where
-  fn-formed : (f : Fn) (ts : List DType) (vs : List Value) (t : DType) → fn-type m ss f ts ≡ Some t → all-fit vs ts ≡ true → ((u : DType) (s : ℕ) → ts ≡ u ∷ [] → u .kind ≡ Row s → u .nullable ≡ false) → formed (fn-value m r f vs) ≡ true
+  fn-formed : (f : Fn) (ts : List DType) (vs : List Value) (t : DType) → fn-type m ss f ts ≡ Some t → all-fit vs ts ≡ true → ((u : DType) (s : ℕ) → ts ≡ u ∷ [] → u .kind ≡ kind.Row s → u .nullable ≡ false) → formed (fn-value m r f vs) ≡ true
   unfolding fn-type fn-value
   fn-formed (root s) ts vs t p q o =
-      let (e, g) = nil-some _ ts t p in
+      let (e, g) = of-none-is _ ts t p in
       ap (λ (z : List Value). formed (of-none (fault malformed) (value (whole s)) z)) (fit-nil vs (rw e at q))
   fn-formed (literal s x) ts vs t p q o =
-      let (e, g) = nil-opt _ ts t p in
+      let (e, g) = of-none-some _ ts t p in
       ap (λ (z : List Value). formed (of-none (fault malformed) (value x) z)) (fit-nil vs (rw e at q))
   fn-formed (get-item n) ts vs t p q o =
-      let (u, e, g) = one-some (λ t. item-type ss n (t .kind)) ts t p in
+      let (u, e, g) = of-one-some (λ t. item-type ss n (t .kind)) ts t p in
       let (w, k, j) = fit-one vs u (rw e at q) in
       let (z, i, _) = item-rowless ss plainly n (u .kind) t g in
       let (y, h) = item-some r n ss u t w (o u z e i) g j in
       rw k (ap formed h)
   fn-formed (cast s) ts vs t p q o =
-      let (u, e, g) = one-some (λ u. cast-type s u) ts t p in
+      let (u, e, g) = of-one-some (λ u. cast-type s u) ts t p in
       let (w, k, j) = fit-one vs u (rw e at q) in
       rw k refl
   fn-formed (compare c) ts vs t p q o =
-      let (s, u, e, g) = two-some compare-type ts t p in
+      let (s, u, e, g) = of-two-some compare-type ts t p in
       let (x, w, k, j, l) = fit-two vs s u (rw e at q) in
       rw k (compares-formed c x w)
   fn-formed (compute a) ts vs t p q o =
-      let (s, u, e, g) = two-some compute-type ts t p in
+      let (s, u, e, g) = of-two-some compute-type ts t p in
       let (x, w, k, j, l) = fit-two vs s u (rw e at q) in
       rw k (computes-formed a x w)
   fn-formed (between b) ts vs t p q o =
-      let (s, u, i, e, g) = three-some between-type ts t p in
+      let (s, u, i, e, g) = of-three-some between-type ts t p in
       let (x, w, y, k, j, l, n) = fit-three vs s u i (rw e at q) in
       rw k (between-formed b x w y)
   fn-formed (call c) ts vs t p q o = host-formed vs (m .gives c vs) (λ i e. na c i ts t vs p q e)
@@ -122,18 +107,18 @@ module _ (m : Meaning) (law : Lawful m) (na : Names-arguments m) (ss : Schemas) 
 mutual
   eval-formed : (m : Meaning) → Lawful m → Names-arguments m → (ss : Schemas) (r : Env) → Env-fits ss r → Columns-plain ss → (e : Expr) (t : DType) → typed m ss e ≡ Some t → formed (eval m r e) ≡ true
   eval-formed m law na ss r ok plainly (logic o a b) t p =
-      let (ta, pa, p1) = obind-some (typed m ss a) _ t p in
-      let (tb, pb, p2) = obind-some (typed m ss b) _ t p1 in
+      let (ta, pa, p1) = and-then-some (typed m ss a) _ t p in
+      let (tb, pb, p2) = and-then-some (typed m ss b) _ t p1 in
       then-formed (eval m r a) _ (eval-formed m law na ss r ok plainly a ta pa) (λ v x. then-formed (eval m r b) _ (eval-formed m law na ss r ok plainly b tb pb) (λ w y. refl))
   eval-formed m law na ss r ok plainly (node f es) t p =
-      let (ts, ps, p1) = obind-some (typed-all m ss es) _ t p in
-      then-formed (evals m r es) _ (evals-formed m law na ss r ok plainly es ts ps) (λ vs x. fn-formed m law na ss r ok plainly f ts vs t p1 (sounds m law ss r ok es ts vs ps x) (item-solid m law ss plainly es ts ps))
+      let (ts, ps, p1) = and-then-some (typed-all m ss es) _ t p in
+      then-formed (evals m r es) _ (evals-formed m law na ss r ok plainly es ts ps) (λ vs x. fn-formed m law na ss r ok plainly f ts vs t p1 (all-values-fit m law ss r ok es ts vs ps x) (item-solid m law ss plainly es ts ps))
 
   evals-formed : (m : Meaning) → Lawful m → Names-arguments m → (ss : Schemas) (r : Env) → Env-fits ss r → Columns-plain ss → (es : Exprs) (ts : List DType) → typed-all m ss es ≡ Some ts → formed (evals m r es) ≡ true
   evals-formed m law na ss r ok plainly nil ts p = refl
   evals-formed m law na ss r ok plainly (cons e es) ts p =
-      let (ta, pa, p1) = obind-some (typed m ss e) _ ts p in
-      let (tb, pb, p2) = obind-some (typed-all m ss es) _ ts p1 in
+      let (ta, pa, p1) = and-then-some (typed m ss e) _ ts p in
+      let (tb, pb, p2) = and-then-some (typed-all m ss es) _ ts p1 in
       then-formed (eval m r e) _ (eval-formed m law na ss r ok plainly e ta pa) (λ v x. then-formed (evals m r es) _ (evals-formed m law na ss r ok plainly es tb pb) (λ w y. refl))
 
 pub bound-trees-are-well-formed : Bound-trees-are-well-formed

@@ -1,56 +1,58 @@
 -- Fusing keeps the type and the outcome, up to which fault.
-use mathlib.Core.Path.{_≡_, refl, ap, sym, subst, _∙_}
+use mathlib.Core.Bool.{Bool, true, false, cond, not, _&&_, _||_}
 use mathlib.Core.List.{List, [], _∷_}
 use mathlib.Core.Logic.{_⊎_, inl, inr}
-use mathlib.Core.Bool.{Bool, true, false, cond, not, _&&_, _||_}
-use Prim.Native.Nat.{ℕ, zero, suc, _+_, _<_, _≤_}
+use mathlib.Core.Path.{_≡_, refl, ap, sym, subst, _∙_}
+use Prim.Native.Nat.{ℕ, zero, suc}
 use native.Mathlib.Omega.{arith}
 use lib.Dec.{eqb}
+use Rattle.std.proofs.shelf.Tests.{and-parts, eqb-true}
 use Rattle.std.proofs.shelf.Ways.{tells}
-use Rattle.std.proofs.shelf.Tests.{and-parts, and-from, eqb-true}
-use Rattle.vocabulary.specs.declared.types.DType.{DType}
-use Rattle.vocabulary.specs.declared.types.Kind.{Kind}
-use Rattle.vocabulary.specs.declared.types.Kind.the-variants.{Bool as KBool, I64, U64, Utf8, Extension, Row}
+use Rattle.std.specs.Options.{mapped}
 use Rattle.std.specs.declared.option.Option.{Option}
 use Rattle.std.specs.declared.option.Option.the-variants.{Some, None}
-use Rattle.meaning.proofs.Tools.{none-some, some-none, false-true, some-same, obind-some, omap-some, omap-none, orelse-some, orelse-none, obind-none, cond-some, settled-then}
-use Rattle.meaning.proofs.Kleene.{kleene-comm, kleene-assoc}
-use Rattle.meaning.proofs.Sound.{like-same}
-use Rattle.meaning.specs.Outcomes.{Outcome, value, fault, and-then, then, settled, unlike}
-use Rattle.std.specs.Options.{mapped, orOther}
+use Rattle.std.specs.shelf.Text.{sameBytes}
 use Rattle.vocabulary.specs.Types.{sameKind, plainKind}
-use Rattle.meaning.specs.Values.{boolean, Value, is-null, kind-of}
-use Rattle.meaning.specs.Comparing.{bound-operator, alike, holds, swap, compares, below, lies-between}
-use Rattle.vocabulary.specs.declared.operators.Connective.{Connective}
-use Rattle.vocabulary.specs.declared.operators.Connective.the-variants.{And, Or}
-use Rattle.meaning.specs.Kleene.{kleene}
 use Rattle.vocabulary.specs.declared.operators.CompareOperator.{CompareOperator}
 use Rattle.vocabulary.specs.declared.operators.CompareOperator.the-variants.{Eq, NotEq, Gt, Gte, Lt, Lte}
-use Rattle.meaning.specs.Lists.{of-two, of-three}
-use Rattle.meaning.specs.Hosts.{Meaning}
+use Rattle.vocabulary.specs.declared.operators.Connective.the-variants.{And, Or}
+use Rattle.vocabulary.specs.declared.types.DType.{DType}
+use Rattle.vocabulary.specs.declared.types.Kind.{Kind}
+use Rattle.vocabulary.specs.declared.types.Kind.the-variants as kind
 use Rattle.meaning.specs.Columns.{Schemas}
-use Rattle.meaning.specs.Evaluating.{Env, eval, evals, fn-value}
-use Rattle.meaning.specs.Trees.{Fn, root, literal, get-item, cast, compare, compute, between, call, Expr, logic, node, Exprs, nil, cons}
-use Rattle.std.specs.shelf.Text.{sameBytes}
-use Rattle.meaning.specs.Typing.{typed, typed-all, fn-type, logic-type, compare-type, between-type, is-extension}
-use Rattle.meaning.specs.Ranges.{Column, Bound, column-tree, bound-tree, fn-root, root-of, item-over, fn-column, column-of, fn-bound, bound-of, Range, ranged, range-two, range-over, fn-range, range}
-use Rattle.meaning.specs.Fusing.{same-column, between-tree, if-typed, if-binds, fuse-sides, fuse-ranges, fuse, Merged, merged, beside, before, keep-right, keep-left, merge, merging-step, merging, find-between, find-between-all}
-use Rattle.meaning.specs.Conjuncts.{replace-first, count-conjuncts}
+use Rattle.meaning.specs.Comparing.{below, holds, alike, compares, swap, bound-operator, lies-between}
+use Rattle.meaning.specs.Conjuncts.{count-conjuncts, replace-first}
+use Rattle.meaning.specs.Evaluating.{Env, fn-value, eval, evals}
+use Rattle.meaning.specs.Fusing.{same-column, between-tree, if-typed, fuse-sides, fuse, Merged, merged, keep-right}
+use Rattle.meaning.specs.Fusing.{keep-left, merge, merging-step, merging, find-between, find-between-all}
+use Rattle.meaning.specs.Hosts.{Meaning}
+use Rattle.meaning.specs.Kleene.{kleene}
+use Rattle.meaning.specs.Lists.{of-two, of-three}
+use Rattle.meaning.specs.Outcomes.{unlike, Outcome, value, fault, then, settled, and-then}
+use Rattle.meaning.specs.Ranges.{Column, Bound, Range, column-tree, bound-tree, fn-root, root-of, item-over}
+use Rattle.meaning.specs.Ranges.{column-of, bound-of, ranged, range-two, range}
+use Rattle.meaning.specs.Trees.{Fn, root, literal, get-item, cast, compare, compute, between, call, Expr, logic, node}
+use Rattle.meaning.specs.Trees.{Exprs, nil, cons}
+use Rattle.meaning.specs.Typing.{is-extension, logic-type, compare-type, between-type, fn-type, typed, typed-all}
+use Rattle.meaning.specs.Values.{Value, boolean, is-null, kind-of}
+use Rattle.meaning.proofs.CaseSplits.{none-some, false-true, some-same, and-then-some, and-then-none, mapped-some}
+use Rattle.meaning.proofs.CaseSplits.{orOther-some, cond-some, settled-then}
+use Rattle.meaning.proofs.KleeneLaws.{kleene-commutes, kleene-associates}
 
 -- ── merging over what And adds up ──
 module _ (m : Meaning) (ss : Schemas) (A : Type 0) (add : A → A → A) (add-comm : (x y : A) → add x y ≡ add y x) (add-assoc : (x y z : A) → add (add x y) z ≡ add x (add y z)) (μ : Expr → A) (μ-and : (a b : Expr) → μ (logic And a b) ≡ add (μ a) (μ b)) where
   last-first : (x y z : A) → add (add x z) y ≡ add (add x y) z
   last-first x y z = add-assoc x z y ∙ ap (add x) (add-comm z y) ∙ sym (add-assoc x y z)
 
-  place-adds : (g : Expr → Option Expr) (w : A) → ((c b : Expr) → g c ≡ Some b → μ b ≡ add (μ c) w) → (l k : Expr) → replace-first g l ≡ Some k → μ k ≡ add (μ l) w
-  place-adds g w f (logic And a b) k h = elim (orelse-some (mapped (λ c. logic And c b) (replace-first g a)) (mapped (λ c. logic And a c) (replace-first g b)) k h) [
-    | inl q ↦ let (c, e, i) = omap-some (λ c. logic And c b) (replace-first g a) k q in
-        ap μ (sym i) ∙ μ-and c b ∙ ap (λ (z : A). add z (μ b)) (place-adds g w f a c e) ∙ last-first (μ a) (μ b) w ∙ ap (λ (z : A). add z w) (sym (μ-and a b))
-    | inr q ↦ let (c, e, i) = omap-some (λ c. logic And a c) (replace-first g b) k (q .1) in
-        ap μ (sym i) ∙ μ-and a c ∙ ap (add (μ a)) (place-adds g w f b c e) ∙ sym (add-assoc (μ a) (μ b) w) ∙ ap (λ (z : A). add z w) (sym (μ-and a b))
+  replace-adds : (g : Expr → Option Expr) (w : A) → ((c b : Expr) → g c ≡ Some b → μ b ≡ add (μ c) w) → (l k : Expr) → replace-first g l ≡ Some k → μ k ≡ add (μ l) w
+  replace-adds g w f (logic And a b) k h = elim (orOther-some (mapped (λ c. logic And c b) (replace-first g a)) (mapped (λ c. logic And a c) (replace-first g b)) k h) [
+    | inl q ↦ let (c, e, i) = mapped-some (λ c. logic And c b) (replace-first g a) k q in
+        ap μ (sym i) ∙ μ-and c b ∙ ap (λ (z : A). add z (μ b)) (replace-adds g w f a c e) ∙ last-first (μ a) (μ b) w ∙ ap (λ (z : A). add z w) (sym (μ-and a b))
+    | inr q ↦ let (c, e, i) = mapped-some (λ c. logic And a c) (replace-first g b) k (q .1) in
+        ap μ (sym i) ∙ μ-and a c ∙ ap (add (μ a)) (replace-adds g w f b c e) ∙ sym (add-assoc (μ a) (μ b) w) ∙ ap (λ (z : A). add z w) (sym (μ-and a b))
   ]
-  place-adds g w f (logic Or a b) k h = f (logic Or a b) k h
-  place-adds g w f (node n es) k h = f (node n es) k h
+  replace-adds g w f (logic Or a b) k h = f (logic Or a b) k h
+  replace-adds g w f (node n es) k h = f (node n es) k h
 
   abbrev pub total : Merged → A
   total (merged k None) = μ k
@@ -66,14 +68,14 @@ module _ (m : Meaning) (ss : Schemas) (A : Type 0) (add : A → A → A) (add-co
 
   module _ (fuses : (d c b : Expr) → fuse m ss d c ≡ Some b → μ b ≡ add (μ c) (μ d)) where
     pub merge-adds : (l r : Expr) (x : Merged) → merge m ss l r ≡ Some x → total x ≡ add (μ l) (μ r)
-    merge-adds l (logic And a b) x h = elim (orelse-some (mapped (keep-right b) (merge m ss l a)) (mapped (keep-left a) (merge m ss l b)) x h) [
-      | inl o ↦ let (y, e, i) = omap-some (keep-right b) (merge m ss l a) x o in
+    merge-adds l (logic And a b) x h = elim (orOther-some (mapped (keep-right b) (merge m ss l a)) (mapped (keep-left a) (merge m ss l b)) x h) [
+      | inl o ↦ let (y, e, i) = mapped-some (keep-right b) (merge m ss l a) x o in
           ap total (sym i) ∙ total-right b y ∙ ap (λ (z : A). add z (μ b)) (merge-adds l a y e) ∙ add-assoc (μ l) (μ a) (μ b) ∙ ap (add (μ l)) (sym (μ-and a b))
-      | inr o ↦ let (y, e, i) = omap-some (keep-left a) (merge m ss l b) x (o .1) in
+      | inr o ↦ let (y, e, i) = mapped-some (keep-left a) (merge m ss l b) x (o .1) in
           ap total (sym i) ∙ total-left a y ∙ ap (λ (z : A). add z (μ a)) (merge-adds l b y e) ∙ add-assoc (μ l) (μ b) (μ a) ∙ ap (add (μ l)) (add-comm (μ b) (μ a) ∙ sym (μ-and a b))
     ]
-    merge-adds l (logic Or a b) x h = let (k, e, i) = omap-some (λ k. merged k None) (replace-first (fuse m ss (logic Or a b)) l) x h in ap total (sym i) ∙ place-adds (fuse m ss (logic Or a b)) (μ (logic Or a b)) (fuses (logic Or a b)) l k e
-    merge-adds l (node f es) x h = let (k, e, i) = omap-some (λ k. merged k None) (replace-first (fuse m ss (node f es)) l) x h in ap total (sym i) ∙ place-adds (fuse m ss (node f es)) (μ (node f es)) (fuses (node f es)) l k e
+    merge-adds l (logic Or a b) x h = let (k, e, i) = mapped-some (λ k. merged k None) (replace-first (fuse m ss (logic Or a b)) l) x h in ap total (sym i) ∙ replace-adds (fuse m ss (logic Or a b)) (μ (logic Or a b)) (fuses (logic Or a b)) l k e
+    merge-adds l (node f es) x h = let (k, e, i) = mapped-some (λ k. merged k None) (replace-first (fuse m ss (node f es)) l) x h in ap total (sym i) ∙ replace-adds (fuse m ss (node f es)) (μ (node f es)) (fuses (node f es)) l k e
 
     step-adds : (more : Expr → Expr → Expr) → ((l r : Expr) → μ (more l r) ≡ add (μ l) (μ r)) → (l r : Expr) (x : Option Merged) → merge m ss l r ≡ x → μ (merging-step more l r x) ≡ add (μ l) (μ r)
     step-adds more f l r None e = μ-and l r
@@ -104,7 +106,7 @@ root-inv (node f es) s h = fn-root-inv f es s h
 item-inv : (n : List ℕ) (es : Exprs) (x : Column) → item-over n es ≡ Some x → node (get-item n) es ≡ column-tree x
 item-inv n nil x h = none-some x h
 item-inv n (cons e nil) x h =
-    let (s, a, i) = omap-some (λ (s : ℕ). record { name = n; schema = s }) (root-of e) x h in
+    let (s, a, i) = mapped-some (λ (s : ℕ). record { name = n; schema = s }) (root-of e) x h in
     ap (λ (z : Expr). node (get-item n) (cons z nil)) (root-inv e s a) ∙ ap column-tree i
 item-inv n (cons e (cons d es)) x h = none-some x h
 
@@ -147,15 +149,15 @@ ranged-parts Lt x l p h = let e = some-same h in (ap (λ (z : Range). z .col) e,
 ranged-parts Lte x l p h = let e = some-same h in (ap (λ (z : Range). z .col) e, ap (λ (z : Range). z .bound) e)
 
 range-two-inv : (c : CompareOperator) (a b : Expr) (p : Range) → range-two c a b ≡ Some p → Ranges (pair c a b) p
-range-two-inv c a b p h = elim (orelse-some (and-then (column-of a) (λ x. and-then (bound-of b) (λ l. ranged c x l))) (and-then (column-of b) (λ x. and-then (bound-of a) (λ l. ranged (swap c) x l))) p h) [
+range-two-inv c a b p h = elim (orOther-some (and-then (column-of a) (λ x. and-then (bound-of b) (λ l. ranged c x l))) (and-then (column-of b) (λ x. and-then (bound-of a) (λ l. ranged (swap c) x l))) p h) [
   | inl q ↦
-      let (x, i, q1) = obind-some (column-of a) _ p q in
-      let (l, j, q2) = obind-some (bound-of b) _ p q1 in
+      let (x, i, q1) = and-then-some (column-of a) _ p q in
+      let (l, j, q2) = and-then-some (bound-of b) _ p q1 in
       let (u, v) = ranged-parts c x l p q2 in
       (c, inl (ap (λ (z : Expr). pair c z b) (column-inv a x i ∙ ap column-tree u) ∙ ap (pair c (column-tree (p .col))) (const-inv b l j ∙ ap bound-tree v), ap (λ (z : Column). ranged c z (p .bound)) (sym u) ∙ ap (ranged c x) (sym v) ∙ q2))
   | inr q ↦
-      let (x, i, q1) = obind-some (column-of b) _ p (q .1) in
-      let (l, j, q2) = obind-some (bound-of a) _ p q1 in
+      let (x, i, q1) = and-then-some (column-of b) _ p (q .1) in
+      let (l, j, q2) = and-then-some (bound-of a) _ p q1 in
       let (u, v) = ranged-parts (swap c) x l p q2 in
       (c, inr (ap (λ (z : Expr). pair c z b) (const-inv a l j ∙ ap bound-tree v) ∙ ap (pair c (bound-tree (p .bound))) (column-inv b x i ∙ ap column-tree u), ap (λ (z : Column). ranged (swap c) z (p .bound)) (sym u) ∙ ap (ranged (swap c) x) (sym v) ∙ q2))
 ]
@@ -305,12 +307,12 @@ pub adds-comm : (x y : Option DType) → adds x y ≡ adds y x
 adds-comm None None = refl
 adds-comm None (Some u) = refl
 adds-comm (Some t) None = refl
-adds-comm (Some t) (Some u) = ap (λ (z : Bool). gate z (t .nullable || u .nullable)) (and-comm (sameKind KBool (t .kind)) (sameKind KBool (u .kind))) ∙ ap (gate (sameKind KBool (u .kind) && sameKind KBool (t .kind))) (or-comm (t .nullable) (u .nullable))
+adds-comm (Some t) (Some u) = ap (λ (z : Bool). gate z (t .nullable || u .nullable)) (and-comm (sameKind kind.Bool (t .kind)) (sameKind kind.Bool (u .kind))) ∙ ap (gate (sameKind kind.Bool (u .kind) && sameKind kind.Bool (t .kind))) (or-comm (t .nullable) (u .nullable))
 
 or-assoc : (a b c : Bool) → ((a || b) || c) ≡ (a || (b || c))
 or-assoc a b c = grind arith
 
-gates : (i j k a b c : Bool) → and-then (gate (i && j) (a || b)) (λ (s : DType). gate (sameKind KBool (s .kind) && k) (s .nullable || c)) ≡ and-then (gate (j && k) (b || c)) (λ (s : DType). gate (i && sameKind KBool (s .kind)) (a || s .nullable))
+gates : (i j k a b c : Bool) → and-then (gate (i && j) (a || b)) (λ (s : DType). gate (sameKind kind.Bool (s .kind) && k) (s .nullable || c)) ≡ and-then (gate (j && k) (b || c)) (λ (s : DType). gate (i && sameKind kind.Bool (s .kind)) (a || s .nullable))
 gates true true true a b c = ap (λ (z : Bool). Some (boolean z)) (or-assoc a b c)
 gates true true false a b c = refl
 gates true false k a b c = refl
@@ -321,8 +323,8 @@ gates false false k a b c = refl
 pub adds-assoc : (x y z : Option DType) → adds (adds x y) z ≡ adds x (adds y z)
 adds-assoc None y z = refl
 adds-assoc (Some t) None z = refl
-adds-assoc (Some t) (Some u) None = obind-none (logic-type t u)
-adds-assoc (Some t) (Some u) (Some v) = gates (sameKind KBool (t .kind)) (sameKind KBool (u .kind)) (sameKind KBool (v .kind)) (t .nullable) (u .nullable) (v .nullable)
+adds-assoc (Some t) (Some u) None = and-then-none (logic-type t u)
+adds-assoc (Some t) (Some u) (Some v) = gates (sameKind kind.Bool (t .kind)) (sameKind kind.Bool (u .kind)) (sameKind kind.Bool (v .kind)) (t .nullable) (u .nullable) (v .nullable)
 
 -- ── a fused pair ──
 same-bytes-is : (xs ys : List ℕ) → sameBytes xs ys ≡ true → xs ≡ ys
@@ -354,8 +356,8 @@ ranges-inv m ss p q b false i h = none-some b h
 pub fuse-inv : (m : Meaning) (ss : Schemas) (d c b : Expr) → fuse m ss d c ≡ Some b → (p q : Range) × (range c ≡ Some p) × (range d ≡ Some q) × (p .col ≡ q .col) × (Sides m ss p q b ⊎ Sides m ss q p b)
 unfolding fuse
 fuse-inv m ss d c b h =
-    let (p, hp, h1) = obind-some (range c) _ b h in
-    let (q, hq, h2) = obind-some (range d) _ b h1 in
+    let (p, hp, h1) = and-then-some (range c) _ b h in
+    let (q, hq, h2) = and-then-some (range d) _ b h1 in
     let (e, w) = ranges-inv m ss p q b (same-column (p .col) (q .col)) refl h2 in
     (p, q, hp, hq, e, w)
 
@@ -384,13 +386,13 @@ addv-comm : (x y : Option Value) → addv x y ≡ addv y x
 addv-comm None None = refl
 addv-comm None (Some w) = refl
 addv-comm (Some v) None = refl
-addv-comm (Some v) (Some w) = ap Some (kleene-comm And v w)
+addv-comm (Some v) (Some w) = ap Some (kleene-commutes And v w)
 
 addv-assoc : (x y z : Option Value) → addv (addv x y) z ≡ addv x (addv y z)
 addv-assoc None y z = refl
 addv-assoc (Some u) None z = refl
 addv-assoc (Some u) (Some v) None = refl
-addv-assoc (Some u) (Some v) (Some w) = ap Some (kleene-assoc And u v w)
+addv-assoc (Some u) (Some v) (Some w) = ap Some (kleene-associates And u v w)
 
 both-settled : (x y : Outcome Value) → settled (then x (λ (v : Value). then y (λ (w : Value). value (kleene And v w)))) ≡ addv (settled x) (settled y)
 both-settled (value v) (value w) = refl
@@ -436,10 +438,10 @@ or-worth (value v) (value w) = refl
 or-worth (value v) (fault x) = refl
 or-worth (fault x) y = refl
 
-cons-worth : (x : Outcome Value) (y : Outcome (List Value)) → settled (then x (λ (v : Value). then y (λ (vs : List Value). value (v ∷ vs)))) ≡ and-then (settled x) (λ (v : Value). and-then (settled y) (λ (vs : List Value). Some (v ∷ vs)))
-cons-worth (value v) (value vs) = refl
-cons-worth (value v) (fault x) = refl
-cons-worth (fault x) y = refl
+settled-cons : (x : Outcome Value) (y : Outcome (List Value)) → settled (then x (λ (v : Value). then y (λ (vs : List Value). value (v ∷ vs)))) ≡ and-then (settled x) (λ (v : Value). and-then (settled y) (λ (vs : List Value). Some (v ∷ vs)))
+settled-cons (value v) (value vs) = refl
+settled-cons (value v) (fault x) = refl
+settled-cons (fault x) y = refl
 
 mutual
   find-worth : (m : Meaning) (ss : Schemas) (r : Env) (e : Expr) → settled (eval m r (find-between m ss e)) ≡ settled (eval m r e)
@@ -449,7 +451,7 @@ mutual
 
   finds-worth : (m : Meaning) (ss : Schemas) (r : Env) (es : Exprs) → settled (evals m r (find-between-all m ss es)) ≡ settled (evals m r es)
   finds-worth m ss r nil = refl
-  finds-worth m ss r (cons e es) = cons-worth (eval m r (find-between m ss e)) (evals m r (find-between-all m ss es)) ∙ simp (find-worth m ss r e, finds-worth m ss r es) (sym (cons-worth (eval m r e) (evals m r es)))
+  finds-worth m ss r (cons e es) = settled-cons (eval m r (find-between m ss e)) (evals m r (find-between-all m ss es)) ∙ simp (find-worth m ss r e, finds-worth m ss r es) (sym (settled-cons (eval m r e) (evals m r es)))
 
-pub fused-keeps : (m : Meaning) (ss : Schemas) (r : Env) (e : Expr) → (typed m ss (find-between m ss e) ≡ typed m ss e) × (settled (eval m r (find-between m ss e)) ≡ settled (eval m r e))
-fused-keeps m ss r e = (find-typed m ss e, find-worth m ss r e)
+pub fusing-keeps : (m : Meaning) (ss : Schemas) (r : Env) (e : Expr) → (typed m ss (find-between m ss e) ≡ typed m ss e) × (settled (eval m r (find-between m ss e)) ≡ settled (eval m r e))
+fusing-keeps m ss r e = (find-typed m ss e, find-worth m ss r e)

@@ -1,11 +1,14 @@
+pub mod BetweenComparisons
+pub mod CaseSplits
 pub mod Cleaning
+pub mod Comparisons
 pub mod DeclaredColumns
 pub mod Faulting
 pub mod Firing
 pub mod Formed
 pub mod Fused
-pub mod Kleene
-pub mod NewLaws
+pub mod HostReplies
+pub mod KleeneLaws
 pub mod NewLaws2
 pub mod Optimizing
 pub mod Placing
@@ -14,6 +17,4 @@ pub mod Rows
 pub mod Sizes
 pub mod Sound
 pub mod Splitting
-pub mod Stated
-pub mod Tools
 pub mod Worked

@@ -1,18 +1,18 @@
-use mathlib.Core.Path.{_≡_, refl, ap, sym, subst, _∙_}
+-- x
 use mathlib.Core.List.{List, [], _∷_}
 use mathlib.Core.Logic.{_⊎_, inl, inr}
-use Prim.Native.Nat.{ℕ, zero, suc, _+_}
+use mathlib.Core.Path.{_≡_, refl, ap, sym, _∙_}
+use Prim.Native.Nat.{ℕ, suc, _+_}
 use native.Mathlib.Omega.{arith}
 use Rattle.std.specs.declared.option.Option.{Option}
-use Rattle.std.specs.declared.option.Option.the-variants.{Some, None}
-use Rattle.meaning.specs.Outcomes.{Outcome, value, fault, then, and-then, Fault}
-use Rattle.meaning.specs.Values.{Value}
-use Rattle.meaning.specs.Kleene.{kleene}
+use Rattle.std.specs.declared.option.Option.the-variants.{Some}
+use Rattle.meaning.specs.Evaluating.{Env, fn-value, eval, evals}
 use Rattle.meaning.specs.Hosts.{Meaning}
-use Rattle.meaning.specs.Evaluating.{Env, eval, evals, fn-value}
-use Rattle.meaning.specs.Trees.{Fn, Expr, logic, node, Exprs, nil, cons, nth-child}
-use Rattle.meaning.specs.Places.{Placed, valued, faulted, then-placed, under, at-top, forget-place, eval-placed, evals-placed, child-at, at-path}
 use Rattle.meaning.specs.LawsOfEvaluating.{Faults-at}
+use Rattle.meaning.specs.Outcomes.{Fault, Outcome, value, fault, then, and-then}
+use Rattle.meaning.specs.Places.{Placed, valued, faulted, then-placed, under, at-top, forget-place, eval-placed}
+use Rattle.meaning.specs.Places.{evals-placed, child-at, at-path}
+use Rattle.meaning.specs.Trees.{Expr, logic, node, Exprs, nil, cons, nth-child}
 
 forget-next : {A B : Type 0} (x : Placed A) (f : A → Placed B) → forget-place (then-placed x f) ≡ then (forget-place x) (λ (a : A). forget-place (f a))
 forget-next (valued a) f = refl
@@ -78,5 +78,5 @@ mutual
     ]
   ]
 
-pub places : (m : Meaning) (r : Env) (e : Expr) → (forget-place (eval-placed m r e) ≡ eval m r e) × ((flt : Fault) (p : List ℕ) → eval-placed m r e ≡ faulted flt p → Faults-at m r e flt p)
-places m r e = (forgets m r e, faults m r e)
+pub places-name-the-fault : (m : Meaning) (r : Env) (e : Expr) → (forget-place (eval-placed m r e) ≡ eval m r e) × ((flt : Fault) (p : List ℕ) → eval-placed m r e ≡ faulted flt p → Faults-at m r e flt p)
+places-name-the-fault m r e = (forgets m r e, faults m r e)

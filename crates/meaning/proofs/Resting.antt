@@ -1,40 +1,29 @@
 -- No rule fires on what optimizing answers, and optimizing again changes nothing.
-use mathlib.Core.Path.{_≡_, refl, ap, sym, subst, _∙_}
+use mathlib.Core.Bool.{Bool, true, false, cond}
 use mathlib.Core.List.{List, [], _∷_}
-use mathlib.Core.Logic.{_⊎_, inl, inr}
-use mathlib.Core.Bool.{Bool, true, false, cond, not, _&&_, _||_}
-use Prim.Native.Nat.{ℕ, zero, suc, _+_, _-_, _*_, _/_, _<_, _≤_, max}
+use mathlib.Core.Logic.{inl, inr}
+use mathlib.Core.Path.{_≡_, refl, ap, sym, subst, _∙_}
+use Prim.Native.Nat.{ℕ, zero, suc, _+_, _-_, _<_, _≤_}
 use native.Mathlib.Omega.{arith}
-use Rattle.std.proofs.shelf.Ways.{tells}
-use Rattle.std.proofs.shelf.Tests.{and-parts, and-from}
-use Rattle.vocabulary.specs.declared.types.DType.{DType}
-use Rattle.vocabulary.specs.declared.types.Kind.{Kind}
-use Rattle.vocabulary.specs.declared.types.Kind.the-variants.{Bool as KBool, I64, U64, Utf8, Extension, Row}
 use Rattle.std.specs.declared.option.Option.{Option}
 use Rattle.std.specs.declared.option.Option.the-variants.{Some, None}
-use Rattle.meaning.proofs.Tools.{none-some, some-none, fault-value, false-true, some-same, value-same, obind-some, omap-some, then-value, cond-some, settled-some, settled-then, nil-some, nil-opt, one-some, two-some, three-some}
-use Rattle.meaning.proofs.Kleene.{kleene-comm}
-use Rattle.meaning.proofs.Firing.{round-better, reduce-simplify}
-use Rattle.meaning.specs.Outcomes.{Outcome, value, fault, and-then, then, settled}
-use Rattle.std.specs.Options.{mapped, orOther}
-use Rattle.meaning.specs.Lists.{of-one, of-two, of-three, of-none, nth, picks}
-use Rattle.vocabulary.specs.Types.{sameKind, plainKind}
-use Rattle.meaning.specs.Values.{boolean, Value, null, bool, signed, unsigned, text, ext, whole, fits, all-fit, is-null}
 use Rattle.vocabulary.specs.declared.operators.Connective.{Connective}
-use Rattle.vocabulary.specs.declared.operators.Connective.the-variants.{And, Or}
-use Rattle.meaning.specs.Kleene.{kleene-table, kleene, truth, of-truth, decides, deciding, lut}
-use Rattle.vocabulary.specs.declared.operators.CompareOperator.{CompareOperator}
-use Rattle.meaning.specs.Comparing.{compares}
-use Rattle.meaning.specs.Hosts.{Meaning, Answer, nothing, child, constant, other, host-type}
-use Rattle.meaning.specs.Lawful.{Lawful, Agree, answer-type, answer-value}
+use Rattle.vocabulary.specs.declared.types.DType.{DType}
 use Rattle.meaning.specs.Columns.{Schemas}
-use Rattle.meaning.specs.Evaluating.{Env, Env-fits, eval, evals, fn-value}
-use Rattle.meaning.specs.Trees.{Fn, root, literal, get-item, cast, compare, compute, between, call, Expr, logic, node, Exprs, nil, cons, nth-child, depth, depths}
-use Rattle.meaning.specs.Typing.{typed, typed-all, fn-type, logic-type, compare-type, cast-type}
-use Rattle.meaning.specs.Literals.{fn-literal, literal-of, literals-of, lit, Seen, sees-truth, sees-null, sees-other, seen-value, seen-of, seen, is-null-literal, has-null-literal}
-use Rattle.meaning.specs.Rules.{nullable-of, nullable, widen, widen-as, drop-truth, simplify-logic, reduce-logic, pick-children, answer-tree, host-rule, simplify-node, simplify, reduce}
-use Rattle.meaning.specs.Optimizing.{or-itself, round-by, round, rounds-step, rounds, map-all, map-children, optimize}
+use Rattle.meaning.specs.Hosts.{Answer, nothing, child, constant, other, Meaning}
+use Rattle.meaning.specs.Kleene.{decides, deciding}
 use Rattle.meaning.specs.LawsOfOptimizing.{Normal, Normals, Changing, One-of, One-child, Treated}
+use Rattle.meaning.specs.Literals.{lit, literal-of, literals-of, has-null-literal, Seen, sees-truth, sees-null}
+use Rattle.meaning.specs.Literals.{sees-other, seen}
+use Rattle.meaning.specs.Optimizing.{or-itself, round-by, round, rounds-step, rounds, map-all, map-children, optimize}
+use Rattle.meaning.specs.Outcomes.{and-then}
+use Rattle.meaning.specs.Rules.{widen-as, widen, simplify-logic, pick-children, answer-tree, simplify, reduce}
+use Rattle.meaning.specs.Trees.{root, literal, get-item, cast, compare, compute, between, call, Expr, logic, node}
+use Rattle.meaning.specs.Trees.{Exprs, nil, cons, nth-child, depth, depths}
+use Rattle.meaning.specs.Typing.{typed, typed-all}
+use Rattle.meaning.specs.Values.{Value, null, bool, boolean}
+use Rattle.meaning.proofs.CaseSplits.{none-some, some-none, some-same, and-then-some, and-then-refused, mapped-some}
+use Rattle.meaning.proofs.Firing.{reduce-simplify}
 
 module _ (m : Meaning) (ss : Schemas) where
   -- within k levels, and no round changes at any of them
@@ -99,15 +88,15 @@ module _ (m : Meaning) (ss : Schemas) where
     pick-settled : (es : Exprs) (is : List ℕ) (ds : Exprs) → Settled-by P es → pick-children es is ≡ Some ds → Settled-by P ds
     pick-settled es [] ds p h = subst (Settled-by P) (some-same h) tt
     pick-settled es (i ∷ is) ds p h =
-        let (d, a, h1) = obind-some (nth-child es i) _ ds h in
-        let (rest, b, h2) = obind-some (pick-children es is) _ ds h1 in
+        let (d, a, h1) = and-then-some (nth-child es i) _ ds h in
+        let (rest, b, h2) = and-then-some (pick-children es is) _ ds h1 in
         subst (Settled-by P) (some-same h2) (nth-settled es i d p a, pick-settled es is rest p b)
 
     answer-settled : (t : DType) (es : Exprs) (d : Expr) (x : Answer) → Settled-by P es → answer-tree t es x ≡ Some d → Children P d
     answer-settled t es d nothing p h = none-some d h
     answer-settled t es d (child i) p h = down d (nth-settled es i d p h)
     answer-settled t es d (constant v) p h = subst (Children P) (some-same h) tt
-    answer-settled t es d (other c is) p h = let (ds, a, e) = omap-some (node (call c)) (pick-children es is) d h in subst (Children P) e (pick-settled es is ds p a)
+    answer-settled t es d (other c is) p h = let (ds, a, e) = mapped-some (node (call c)) (pick-children es is) d h in subst (Children P) e (pick-settled es is ds p a)
 
     pub simplify-settled : (e d : Expr) → Children P e → simplify m ss e ≡ Some d → Children P d
     unfolding simplify
@@ -120,8 +109,8 @@ module _ (m : Meaning) (ss : Schemas) where
     simplify-settled (node (compute o) es) d p h = none-some d h
     simplify-settled (node (between o) es) d p h = none-some d h
     simplify-settled (node (call c) es) d p h =
-        let (ts, a, h1) = obind-some (typed-all m ss es) _ d h in
-        let (t, b, h2) = obind-some (typed m ss (node (call c) es)) _ d h1 in
+        let (ts, a, h1) = and-then-some (typed-all m ss es) _ d h in
+        let (t, b, h2) = and-then-some (typed m ss (node (call c) es)) _ d h1 in
         answer-settled t es d (m .rule c ts (literals-of es)) p h2
 
     itself-settled : (d : Expr) (x : Option Expr) → reduce m ss d ≡ x → Children P d → Children P (or-itself d x)
@@ -148,25 +137,25 @@ module _ (m : Meaning) (ss : Schemas) where
   all-settled : (P : Expr → Type 0) (f : Expr → Option Expr) → ((e d : Expr) → f e ≡ Some d → P d) → (es ds : Exprs) → map-all f es ≡ Some ds → Settled-by P ds
   all-settled P f g nil ds h = subst (Settled-by P) (some-same h) tt
   all-settled P f g (cons e es) ds h =
-      let (d, a, h1) = obind-some (f e) _ ds h in
-      let (rest, b, h2) = obind-some (map-all f es) _ ds h1 in
+      let (d, a, h1) = and-then-some (f e) _ ds h in
+      let (rest, b, h2) = and-then-some (map-all f es) _ ds h1 in
       subst (Settled-by P) (some-same h2) (g e d a, all-settled P f g es rest b)
 
   children-settled : (P : Expr → Type 0) (f : Expr → Option Expr) → ((e d : Expr) → f e ≡ Some d → P d) → (e d : Expr) → map-children f e ≡ Some d → Children P d
   children-settled P f g (logic o a b) d h =
-      let (c, ha, h1) = obind-some (f a) _ d h in
-      let (e, hb, h2) = obind-some (f b) _ d h1 in
+      let (c, ha, h1) = and-then-some (f a) _ d h in
+      let (e, hb, h2) = and-then-some (f b) _ d h1 in
       subst (Children P) (some-same h2) (g a c ha, g b e hb)
   children-settled P f g (node k es) d h =
-      let (ds, hs, h1) = obind-some (map-all f es) _ d h in
+      let (ds, hs, h1) = and-then-some (map-all f es) _ d h in
       subst (Children P) (some-same h1) (all-settled P f g es ds hs)
 
   pub optimize-settled : (k : ℕ) (e d : Expr) → optimize m ss k e ≡ Some d → Settled k d
   unfolding optimize
   optimize-settled zero e d h = none-some d h
   optimize-settled (suc k) e d h =
-      let (a, ha, h1) = obind-some (rounds m ss 100 e) _ d h in
-      let (b, hb, h2) = obind-some (map-children (optimize m ss k) a) _ d h1 in
+      let (a, ha, h1) = and-then-some (rounds m ss 100 e) _ d h in
+      let (b, hb, h2) = and-then-some (map-children (optimize m ss k) a) _ d h1 in
       rounds-settled (Settled k) (settled-children k) 100 b d (children-settled (Settled k) (optimize m ss k) (optimize-settled k) a b hb) h2
 
   -- a settled tree is its own answer
@@ -205,8 +194,8 @@ module _ (m : Meaning) (ss : Schemas) where
   settled-normal (suc k) (logic o a b) h = (no-round (logic o a b) (h .0), (settled-normal k a (h .1 .0), settled-normal k b (h .1 .1)))
   settled-normal (suc k) (node f es) h = (no-round (node f es) (h .0), all-normal (Settled k) (settled-normal k) es (h .1))
 
-  pub optimized : (k : ℕ) (e d : Expr) → optimize m ss k e ≡ Some d → Normal m ss d × (optimize m ss k d ≡ Some d)
-  optimized k e d h = let s = optimize-settled k e d h in (settled-normal k d s, optimize-rest k d s)
+  pub optimized-is-normal : (k : ℕ) (e d : Expr) → optimize m ss k e ≡ Some d → Normal m ss d × (optimize m ss k d ≡ Some d)
+  optimized-is-normal k e d h = let s = optimize-settled k e d h in (settled-normal k d s, optimize-rest k d s)
 
   -- ── fuel ──
   depths-within : (n : ℕ) (es : Exprs) → depths es ≤ n → Settled-by (λ c. depth c ≤ n) es
@@ -257,23 +246,19 @@ module _ (m : Meaning) (ss : Schemas) where
   rounds-over zero e h = step-over (λ d. None) 0 (λ d i. tt) e (round m ss e) refl h
   rounds-over (suc k) e h = step-over (rounds m ss k) (suc k) (rounds-over k) e (round m ss e) refl h
 
-  obind-none-inv : {A B : Type 0} (x : Option A) (f : A → Option B) → and-then x f ≡ None → (x ≡ None) ⊎ ((a : A) × (x ≡ Some a) × (f a ≡ None))
-  obind-none-inv None f h = inl refl
-  obind-none-inv (Some a) f h = inr (a, refl, h)
-
   one-refused : (P : Expr → Type 0) (f : Expr → Option Expr) (es : Exprs) → Settled-by P es → map-all f es ≡ None → One-of (λ c. P c × (f c ≡ None)) es
   one-refused P f nil p h = some-none nil h
-  one-refused P f (cons e es) p h = elim (obind-none-inv (f e) _ h) [
+  one-refused P f (cons e es) p h = elim (and-then-refused (f e) _ h) [
     | inl q ↦ inl (p .0, q)
-    | inr q ↦ elim (obind-none-inv (map-all f es) _ (q .2)) [ inl o ↦ inr (one-refused P f es (p .1) o) | inr o ↦ some-none _ (o .2) ]
+    | inr q ↦ elim (and-then-refused (map-all f es) _ (q .2)) [ inl o ↦ inr (one-refused P f es (p .1) o) | inr o ↦ some-none _ (o .2) ]
   ]
 
   child-refused : (P : Expr → Type 0) (f : Expr → Option Expr) (e : Expr) → Children P e → map-children f e ≡ None → One-child (λ c. P c × (f c ≡ None)) e
-  child-refused P f (logic o a b) p h = elim (obind-none-inv (f a) _ h) [
+  child-refused P f (logic o a b) p h = elim (and-then-refused (f a) _ h) [
     | inl q ↦ inl (p .0, q)
-    | inr q ↦ elim (obind-none-inv (f b) _ (q .2)) [ inl z ↦ inr (p .1, z) | inr z ↦ some-none _ (z .2) ]
+    | inr q ↦ elim (and-then-refused (f b) _ (q .2)) [ inl z ↦ inr (p .1, z) | inr z ↦ some-none _ (z .2) ]
   ]
-  child-refused P f (node g es) p h = elim (obind-none-inv (map-all f es) _ h) [ inl q ↦ one-refused P f es p q | inr q ↦ some-none _ (q .2) ]
+  child-refused P f (node g es) p h = elim (and-then-refused (map-all f es) _ h) [ inl q ↦ one-refused P f es p q | inr q ↦ some-none _ (q .2) ]
 
   abbrev Over : ℕ → Expr → Type 0
   Over k e = (x : Expr) × Treated m ss k e x × Changing m ss 101 x
@@ -288,17 +273,17 @@ module _ (m : Meaning) (ss : Schemas) where
   child-over k P f (logic o a b) (inr h) = let (x, t, c) = f b h in (x, inr t, c)
   child-over k P f (node g es) h = one-over k P f es h
 
-  pub refused-over : (k : ℕ) (e : Expr) → depth e ≤ k → optimize m ss k e ≡ None → Over k e
+  pub refused-only-for-a-101st-round : (k : ℕ) (e : Expr) → depth e ≤ k → optimize m ss k e ≡ None → Over k e
   unfolding optimize
-  refused-over zero e p h = absurd (omega (arith, depth-some e))
-  refused-over (suc k) e p h = elim (obind-none-inv (rounds m ss 100 e) _ h) [
+  refused-only-for-a-101st-round zero e p h = absurd (omega (arith, depth-some e))
+  refused-only-for-a-101st-round (suc k) e p h = elim (and-then-refused (rounds m ss 100 e) _ h) [
     | inl q ↦ (e, inl refl, rounds-over 100 e q)
     | inr q ↦
         let (d, i, g) = q in
         let w = rounds-settled (λ c. depth c ≤ k) (depth-down k) 100 e d (depth-within k e p) i .1 in
-        elim (obind-none-inv (map-children (optimize m ss k) d) _ g) [
+        elim (and-then-refused (map-children (optimize m ss k) d) _ g) [
           | inl o ↦
-              let (x, t, c) = child-over k (λ c. (depth c ≤ k) × (optimize m ss k c ≡ None)) (λ c z. refused-over k c (z .0) (z .1)) d (child-refused (λ c. depth c ≤ k) (optimize m ss k) d w o) in
+              let (x, t, c) = child-over k (λ c. (depth c ≤ k) × (optimize m ss k c ≡ None)) (λ c z. refused-only-for-a-101st-round k c (z .0) (z .1)) d (child-refused (λ c. depth c ≤ k) (optimize m ss k) d w o) in
               (x, inr (d, i, inl t), c)
           | inr o ↦ (o .0, inr (d, i, inr (o .1)), rounds-over 100 (o .0) (o .2))
         ]

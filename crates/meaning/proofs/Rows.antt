@@ -1,62 +1,63 @@
 -- Rows stand at Roots alone; a fitting row makes a fitting environment.
-use mathlib.Core.Path.{_≡_, refl, ap, sym, subst, _∙_}
+use mathlib.Core.Bool.{Bool, true, false, cond}
 use mathlib.Core.List.{List, [], _∷_}
-use mathlib.Core.Logic.{_⊎_, inl, inr}
-use mathlib.Core.Bool.{Bool, true, false, cond, not, _&&_, _||_}
-use Prim.Native.Nat.{ℕ, zero, suc, _+_}
+use mathlib.Core.Path.{_≡_, refl, ap, subst, _∙_}
+use Prim.Native.Nat.{ℕ, _+_}
 use native.Mathlib.Omega.{arith}
-use lib.Dec.{eqb, ltb}
+use lib.Dec.{eqb}
+use Rattle.std.proofs.shelf.Tests.{and-parts, eqb-true}
 use Rattle.std.proofs.shelf.Ways.{tells}
-use Rattle.std.proofs.shelf.Tests.{and-parts, and-from, eqb-true}
+use Rattle.std.specs.Options.{mapped}
+use Rattle.std.specs.declared.option.Option.the-variants.{Some, None}
+use Rattle.std.specs.shelf.Text.{sameBytes}
+use Rattle.vocabulary.specs.Types.{plainKind}
 use Rattle.vocabulary.specs.declared.types.DType.{DType}
 use Rattle.vocabulary.specs.declared.types.Kind.{Kind}
-use Rattle.vocabulary.specs.declared.types.Kind.the-variants.{Bool as KBool, I64, U64, Utf8, Extension, Row}
-use Rattle.std.specs.declared.option.Option.{Option}
-use Rattle.std.specs.declared.option.Option.the-variants.{Some, None}
-use Rattle.meaning.proofs.Tools.{none-some, some-none, false-true, some-same, obind-some, cond-some, nil-some, nil-opt, one-some, two-some, three-some}
-use Rattle.meaning.specs.Values.{Value, boolean, fits}
-use Rattle.meaning.specs.Outcomes.{and-then}
-use Rattle.meaning.specs.Lists.{nth, of-one, of-two, of-three, of-none}
-use Rattle.vocabulary.specs.Types.{sameKind, plainKind}
-use Rattle.meaning.specs.Hosts.{Meaning, host-type}
+use Rattle.vocabulary.specs.declared.types.Kind.the-variants as kind
+use Rattle.schemas.specs.Fields.{Field, found, foundFrom}
+use Rattle.meaning.specs.Columns.{Schemas, column-type, Columns-plain}
+use Rattle.meaning.specs.Evaluating.{Env-fits}
+use Rattle.meaning.specs.Hosts.{Meaning}
 use Rattle.meaning.specs.Lawful.{Lawful}
-use Rattle.meaning.specs.Columns.{Schemas, Columns-plain, column-type}
-use Rattle.std.specs.Options.{mapped}
-use Rattle.schemas.specs.Fields.{found, foundFrom, Field}
-use Rattle.meaning.specs.Evaluating.{Env, Env-fits}
-use Rattle.meaning.specs.Trees.{Fn, root, literal, get-item, cast, compare, compute, between, call, Expr, logic, node, Exprs, nil, cons}
-use Rattle.meaning.specs.Typing.{typed, typed-all, fn-type, item-type, logic-type, compare-type, compute-type, between-type, cast-type, is-number}
-use Rattle.std.specs.shelf.Text.{sameBytes}
-use Rattle.meaning.specs.Rows.{some-value, value-in, value-or, columns-of, row-env, row-fits}
+use Rattle.meaning.specs.Lists.{nth}
 use Rattle.meaning.specs.Ranges.{Column, column-tree}
+use Rattle.meaning.specs.Rows.{row-fits, value-in, some-value, value-or, columns-of, row-env}
+use Rattle.meaning.specs.Rules.{nullable}
+use Rattle.meaning.specs.Trees.{Fn, root, literal, get-item, cast, compare, compute, between, call, Expr, logic, node}
+use Rattle.meaning.specs.Trees.{Exprs, nil, cons}
+use Rattle.meaning.specs.Typing.{is-number, item-type, compare-type, compute-type, between-type, cast-type, fn-type}
+use Rattle.meaning.specs.Typing.{typed, typed-all}
+use Rattle.meaning.specs.Values.{Value, fits}
+use Rattle.meaning.proofs.CaseSplits.{none-some, false-true, some-same, and-then-some, cond-some, of-none-is}
+use Rattle.meaning.proofs.CaseSplits.{of-none-some, of-one-some, of-two-some, of-three-some}
 
-not-row : (k : Kind) (s : ℕ) → plainKind k ≡ true → k ≡ Row s → ⊥
+not-row : (k : Kind) (s : ℕ) → plainKind k ≡ true → k ≡ kind.Row s → ⊥
 not-row k s p e = false-true (rw e at p)
 
 number-rowless : (k : Kind) → is-number k ≡ true → plainKind k ≡ true
 number-rowless k p = grind arith
 
-pub item-rowless : (ss : Schemas) → Columns-plain ss → (n : List ℕ) (k : Kind) (t : DType) → item-type ss n k ≡ Some t → (s : ℕ) × (k ≡ Row s) × (plainKind (t .kind) ≡ true)
-item-rowless ss plain n KBool t h = none-some t h
-item-rowless ss plain n I64 t h = none-some t h
-item-rowless ss plain n U64 t h = none-some t h
-item-rowless ss plain n Utf8 t h = none-some t h
-item-rowless ss plain n (Extension e) t h = none-some t h
-item-rowless ss plain n (Row s) t h = (s, refl, plain s n t h)
+pub item-rowless : (ss : Schemas) → Columns-plain ss → (n : List ℕ) (k : Kind) (t : DType) → item-type ss n k ≡ Some t → (s : ℕ) × (k ≡ kind.Row s) × (plainKind (t .kind) ≡ true)
+item-rowless ss plain n kind.Bool t h = none-some t h
+item-rowless ss plain n kind.I64 t h = none-some t h
+item-rowless ss plain n kind.U64 t h = none-some t h
+item-rowless ss plain n kind.Utf8 t h = none-some t h
+item-rowless ss plain n (kind.Extension e) t h = none-some t h
+item-rowless ss plain n (kind.Row s) t h = (s, refl, plain s n t h)
 
 typed-nil : (m : Meaning) (ss : Schemas) (es : Exprs) → typed-all m ss es ≡ Some [] → es ≡ nil
 typed-nil m ss nil p = refl
 typed-nil m ss (cons e es) p =
-    let (t, a, p1) = obind-some (typed m ss e) _ [] p in
-    let (ts, b, p2) = obind-some (typed-all m ss es) _ [] p1 in
+    let (t, a, p1) = and-then-some (typed m ss e) _ [] p in
+    let (ts, b, p2) = and-then-some (typed-all m ss es) _ [] p1 in
     let i = some-same p2 in
     let z : _≡_ {A = ℕ} 0 1 = cc in absurd (omega arith)
 
 pub typed-cons : (m : Meaning) (ss : Schemas) (es : Exprs) (t : DType) (ts : List DType) → typed-all m ss es ≡ Some (t ∷ ts) → (e : Expr) × (ds : Exprs) × (es ≡ cons e ds) × (typed m ss e ≡ Some t) × (typed-all m ss ds ≡ Some ts)
 typed-cons m ss nil t ts p = let z : _≡_ {A = ℕ} 0 1 = cc in absurd (omega arith)
 typed-cons m ss (cons e es) t ts p =
-    let (u, a, p1) = obind-some (typed m ss e) _ (t ∷ ts) p in
-    let (us, b, p2) = obind-some (typed-all m ss es) _ (t ∷ ts) p1 in
+    let (u, a, p1) = and-then-some (typed m ss e) _ (t ∷ ts) p in
+    let (us, b, p2) = and-then-some (typed-all m ss es) _ (t ∷ ts) p1 in
     let i = some-same p2 in
     (e, es, refl, a ∙ ap Some (cons-head i), b ∙ ap Some (cons-tail i))
   where
@@ -66,55 +67,55 @@ typed-cons m ss (cons e es) t ts p =
     cons-tail : {u t : DType} {us ts : List DType} → u ∷ us ≡ t ∷ ts → us ≡ ts
     cons-tail i = cc
 
-root-kind : (s q : ℕ) (t : DType) → record { kind = Row s; nullable = false } ≡ t → t .kind ≡ Row q → s ≡ q
+root-kind : (s q : ℕ) (t : DType) → record { kind = kind.Row s; nullable = false } ≡ t → t .kind ≡ kind.Row q → s ≡ q
 root-kind s q t e i = row-same (ap (λ (z : DType). z .kind) e ∙ i)
   where
-    row-same : {s q : ℕ} → Row s ≡ Row q → s ≡ q
+    row-same : {s q : ℕ} → kind.Row s ≡ kind.Row q → s ≡ q
     row-same i = cc
 
 module _ (m : Meaning) (law : Lawful m) (ss : Schemas) (plain : Columns-plain ss) where
-  fn-row : (f : Fn) (es : Exprs) (ts : List DType) (t : DType) (s : ℕ) → typed-all m ss es ≡ Some ts → fn-type m ss f ts ≡ Some t → t .kind ≡ Row s → node f es ≡ node (root s) nil
+  fn-row : (f : Fn) (es : Exprs) (ts : List DType) (t : DType) (s : ℕ) → typed-all m ss es ≡ Some ts → fn-type m ss f ts ≡ Some t → t .kind ≡ kind.Row s → node f es ≡ node (root s) nil
   unfolding fn-type
   fn-row (root q) es ts t s p h i =
-      let (e, g) = nil-some _ ts t h in
+      let (e, g) = of-none-is _ ts t h in
       ap (node (root q)) (typed-nil m ss es (rw e at p)) ∙ ap (λ (z : ℕ). node (root z) nil) (root-kind q s t g i)
   fn-row (literal u v) es ts t s p h i =
-      let (e, g) = nil-opt _ ts t h in
+      let (e, g) = of-none-some _ ts t h in
       let (c, j) = cond-some _ _ _ g in
       absurd (not-row (t .kind) s (subst (λ (z : DType). plainKind (z .kind) ≡ true) j (and-parts _ _ c .1)) i)
   fn-row (get-item n) es ts t s p h i =
-      let (u, e, g) = one-some (λ u. item-type ss n (u .kind)) ts t h in
+      let (u, e, g) = of-one-some (λ u. item-type ss n (u .kind)) ts t h in
       absurd (not-row (t .kind) s (item-rowless ss plain n (u .kind) t g .2) i)
   fn-row (cast u) es ts t s p h i =
-      let (w, e, g) = one-some (λ w. cast-type u w) ts t h in
+      let (w, e, g) = of-one-some (λ w. cast-type u w) ts t h in
       let (c, j) = cond-some _ _ _ g in
       absurd (not-row (t .kind) s (subst (λ (z : DType). plainKind (z .kind) ≡ true) j (and-parts _ _ c .0)) i)
   fn-row (compare c) es ts t s p h i =
-      let (u, w, e, g) = two-some compare-type ts t h in
+      let (u, w, e, g) = of-two-some compare-type ts t h in
       absurd (not-row (t .kind) s (subst (λ (z : DType). plainKind (z .kind) ≡ true) (cond-some _ _ _ g .1) refl) i)
   fn-row (compute o) es ts t s p h i =
-      let (u, w, e, g) = two-some compute-type ts t h in
+      let (u, w, e, g) = of-two-some compute-type ts t h in
       let (c, j) = cond-some _ _ _ g in
       absurd (not-row (t .kind) s (subst (λ (z : DType). plainKind (z .kind) ≡ true) j (number-rowless (u .kind) (and-parts _ _ c .0))) i)
   fn-row (between o) es ts t s p h i =
-      let (u, w, x, e, g) = three-some between-type ts t h in
+      let (u, w, x, e, g) = of-three-some between-type ts t h in
       absurd (not-row (t .kind) s (subst (λ (z : DType). plainKind (z .kind) ≡ true) (cond-some _ _ _ g .1) refl) i)
   fn-row (call c) es ts t s p h i = absurd (not-row (t .kind) s (law .no-row c ts t h) i)
 
-  pub rows-are-roots : (e : Expr) (t : DType) (s : ℕ) → typed m ss e ≡ Some t → t .kind ≡ Row s → e ≡ node (root s) nil
+  pub rows-are-roots : (e : Expr) (t : DType) (s : ℕ) → typed m ss e ≡ Some t → t .kind ≡ kind.Row s → e ≡ node (root s) nil
   rows-are-roots (logic o a b) t s p i =
-      let (ta, pa, p1) = obind-some (typed m ss a) _ t p in
-      let (tb, pb, p2) = obind-some (typed m ss b) _ t p1 in
+      let (ta, pa, p1) = and-then-some (typed m ss a) _ t p in
+      let (tb, pb, p2) = and-then-some (typed m ss b) _ t p1 in
       absurd (not-row (t .kind) s (subst (λ (z : DType). plainKind (z .kind) ≡ true) (cond-some _ _ _ p2 .1) refl) i)
   rows-are-roots (node f es) t s p i =
-      let (ts, ps, p1) = obind-some (typed-all m ss es) _ t p in
+      let (ts, ps, p1) = and-then-some (typed-all m ss es) _ t p in
       fn-row f es ts t s ps p1 i
 
-  pub items-are-columns : (n : List ℕ) (es : Exprs) (t : DType) → typed m ss (node (get-item n) es) ≡ Some t → (x : Column) × (node (get-item n) es ≡ column-tree x)
+  pub items-are-of-roots : (n : List ℕ) (es : Exprs) (t : DType) → typed m ss (node (get-item n) es) ≡ Some t → (x : Column) × (node (get-item n) es ≡ column-tree x)
   unfolding fn-type
-  items-are-columns n es t p =
-      let (ts, ps, p1) = obind-some (typed-all m ss es) _ t p in
-      let (u, e, g) = one-some (λ u. item-type ss n (u .kind)) ts t p1 in
+  items-are-of-roots n es t p =
+      let (ts, ps, p1) = and-then-some (typed-all m ss es) _ t p in
+      let (u, e, g) = of-one-some (λ u. item-type ss n (u .kind)) ts t p1 in
       let (s, k, _) = item-rowless ss plain n (u .kind) t g in
       let (d, ds, j, a, b) = typed-cons m ss es u [] (rw e at ps) in
       (record { name = n; schema = s }, ap (node (get-item n)) (j ∙ ap (cons d) (typed-nil m ss ds b) ∙ ap (λ (z : Expr). cons z nil) (rows-are-roots d u s a k)))
@@ -137,7 +138,7 @@ in-row i (c ∷ cs) (v ∷ vs) n t p h = go (sameBytes (c .name) n) (and-parts _
 
 own-columns : (ss : Schemas) (s : ℕ) (n : List ℕ) (t : DType) → column-type ss s n ≡ Some t → mapped (λ c. c .dtype) (found n (columns-of ss s)) ≡ Some t
 unfolding column-type
-own-columns ss s n t h = let (cs, a, g) = obind-some (nth ss s) _ t h in simp a g
+own-columns ss s n t h = let (cs, a, g) = and-then-some (nth ss s) _ t h in simp a g
 
 row-fit : (ss : Schemas) (s : ℕ) (vs : List Value) → row-fits (columns-of ss s) vs ≡ true → (q : ℕ) (n : List ℕ) (t : DType) → column-type ss q n ≡ Some t → (b : Bool) → eqb q s ≡ b → fits (cond b (value-or (value-in (columns-of ss s) vs n) None) (value-or None (column-type ss q n))) t ≡ true
 row-fit ss s vs p q n t h true e =

@@ -1,46 +1,37 @@
 -- Neither optimizing nor fusing grows a tree.
-use mathlib.Core.Path.{_≡_, refl, ap, sym, subst, _∙_}
+use mathlib.Core.Bool.{Bool, true, false, cond}
 use mathlib.Core.List.{List, [], _∷_}
 use mathlib.Core.Logic.{_⊎_, inl, inr}
-use mathlib.Core.Bool.{Bool, true, false, cond, not, _&&_, _||_}
-use Prim.Native.Nat.{ℕ, zero, suc, _+_, _-_, _*_, _/_, _<_, _≤_, max}
+use mathlib.Core.Path.{_≡_, refl, ap, sym, subst, _∙_}
+use Prim.Native.Nat.{ℕ, zero, suc, _+_, _<_, _≤_, max}
 use native.Mathlib.Omega.{arith}
-use Rattle.std.proofs.shelf.Ways.{tells}
-use Rattle.std.proofs.shelf.Tests.{and-parts, and-from}
-use Rattle.vocabulary.specs.declared.types.DType.{DType}
-use Rattle.vocabulary.specs.declared.types.Kind.{Kind}
-use Rattle.vocabulary.specs.declared.types.Kind.the-variants.{Bool as KBool, I64, U64, Utf8, Extension, Row}
+use Rattle.std.proofs.shelf.Tests.{and-parts, eqb-false, or-parts, not-true}
+use Rattle.std.specs.Options.{mapped}
 use Rattle.std.specs.declared.option.Option.{Option}
 use Rattle.std.specs.declared.option.Option.the-variants.{Some, None}
-use Rattle.meaning.proofs.Tools.{none-some, some-none, fault-value, false-true, some-same, value-same, obind-some, omap-some, then-value, cond-some, settled-some, settled-then, nil-some, nil-opt, one-some, two-some, three-some}
-use Rattle.meaning.proofs.Kleene.{kleene-comm}
-use Rattle.meaning.proofs.Firing.{round-better, reduce-simplify}
-use Rattle.meaning.proofs.Tools.{orelse-some}
-use Rattle.meaning.proofs.Resting.{optimize-depth}
-use Rattle.meaning.proofs.Fused.{fuse-inv, range-inv, pair, Sides, Ranges}
-use Rattle.meaning.specs.Outcomes.{Outcome, value, fault, and-then, then, settled}
-use Rattle.std.specs.Options.{mapped, orOther}
-use Rattle.meaning.specs.Lists.{of-one, of-two, of-three, of-none, nth, picks}
-use Rattle.vocabulary.specs.Types.{sameKind, plainKind}
-use Rattle.meaning.specs.Values.{boolean, Value, null, bool, signed, unsigned, text, ext, whole, fits, all-fit, is-null}
 use Rattle.vocabulary.specs.declared.operators.Connective.{Connective}
 use Rattle.vocabulary.specs.declared.operators.Connective.the-variants.{And, Or}
-use Rattle.meaning.specs.Kleene.{kleene-table, kleene, truth, of-truth, decides, deciding, lut}
-use Rattle.vocabulary.specs.declared.operators.CompareOperator.{CompareOperator}
-use Rattle.meaning.specs.Comparing.{compares}
-use Rattle.meaning.specs.Hosts.{Meaning, Answer, nothing, child, constant, other, host-type}
-use Rattle.meaning.specs.Lawful.{Lawful, Agree, answer-type, answer-value, among, distinct, answer-once}
+use Rattle.vocabulary.specs.declared.types.DType.{DType}
 use Rattle.meaning.specs.Columns.{Schemas}
-use Rattle.meaning.specs.Evaluating.{Env, Env-fits, eval, evals, fn-value}
-use Rattle.meaning.specs.Trees.{Fn, root, literal, get-item, cast, compare, compute, between, call, Expr, logic, node, Exprs, nil, cons, nth-child, depth, depths, size, sizes}
-use Rattle.meaning.specs.Typing.{typed, typed-all, fn-type, logic-type, compare-type, cast-type}
-use Rattle.meaning.specs.Literals.{fn-literal, literal-of, literals-of, lit, Seen, sees-truth, sees-null, sees-other, seen-value, seen-of, seen, is-null-literal, has-null-literal}
-use Rattle.meaning.specs.Rules.{nullable-of, nullable, widen, widen-as, drop-truth, simplify-logic, reduce-logic, pick-children, answer-tree, host-rule, simplify-node, simplify, reduce}
+use Rattle.meaning.specs.Conjuncts.{count-conjuncts, replace-first}
+use Rattle.meaning.specs.Fusing.{fuse, Merged, merged, keep-right, keep-left, merge, merging-step, merging}
+use Rattle.meaning.specs.Fusing.{find-between, find-between-all}
+use Rattle.meaning.specs.Hosts.{Answer, nothing, child, constant, other, Meaning}
+use Rattle.meaning.specs.Kleene.{decides, deciding}
+use Rattle.meaning.specs.Lawful.{among, distinct, answer-once, Lawful}
+use Rattle.meaning.specs.Literals.{lit, literal-of, literals-of, has-null-literal, Seen, sees-truth, sees-null}
+use Rattle.meaning.specs.Literals.{sees-other, seen}
 use Rattle.meaning.specs.Optimizing.{or-itself, round-by, round, rounds-step, rounds, map-all, map-children, optimize}
-use Rattle.meaning.specs.Ranges.{Column, Bound, column-tree, bound-tree, Range, range}
-use Rattle.meaning.specs.Fusing.{between-tree, fuse, Merged, merged, beside, before, keep-right, keep-left, merge, merging-step, merging, find-between, find-between-all}
-use Rattle.meaning.specs.Conjuncts.{replace-first, count-conjuncts}
-use Rattle.std.proofs.shelf.Tests.{or-parts, not-true, eqb-false}
+use Rattle.meaning.specs.Ranges.{Range}
+use Rattle.meaning.specs.Rules.{widen-as, widen, simplify-logic, pick-children, answer-tree, simplify, reduce}
+use Rattle.meaning.specs.Trees.{root, literal, get-item, cast, compare, compute, between, call, Expr, logic, node}
+use Rattle.meaning.specs.Trees.{Exprs, nil, cons, nth-child, depth, depths, size, sizes}
+use Rattle.meaning.specs.Typing.{typed, typed-all}
+use Rattle.meaning.specs.Values.{Value, null, bool, boolean}
+use Rattle.meaning.proofs.CaseSplits.{none-some, some-same, and-then-some, mapped-some, orOther-some}
+use Rattle.meaning.proofs.Firing.{reduce-simplify}
+use Rattle.meaning.proofs.Fused.{Ranges, range-inv, Sides, fuse-inv}
+use Rattle.meaning.proofs.Resting.{optimize-depth}
 
 -- ── some of the children, each at most once ──
 at : List ℕ → ℕ → ℕ
@@ -108,8 +99,8 @@ pick-weights : (es : Exprs) (is : List ℕ) (ds : Exprs) → pick-children es is
 unfolding total-at
 pick-weights es [] ds h = ap sizes (sym (some-same h))
 pick-weights es (i ∷ is) ds h =
-    let (d, a, h1) = obind-some (nth-child es i) _ ds h in
-    let (rest, b, h2) = obind-some (pick-children es is) _ ds h1 in
+    let (d, a, h1) = and-then-some (nth-child es i) _ ds h in
+    let (rest, b, h2) = and-then-some (pick-children es is) _ ds h1 in
     ap sizes (sym (some-same h2)) ∙ omega (arith, nth-weight es i d a, pick-weights es is rest b)
 
 nth-size : (es : Exprs) (i : ℕ) (d : Expr) → nth-child es i ≡ Some d → size d ≤ sizes es
@@ -150,7 +141,7 @@ answer-size t es d nothing p h = none-some d h
 answer-size t es d (child i) p h = omega (arith, nth-size es i d h)
 answer-size t es d (constant v) p h = subst (λ (z : Expr). size z ≤ suc (sizes es)) (some-same h) (omega arith)
 answer-size t es d (other c is) p h =
-    let (ds, a, e) = omap-some (node (call c)) (pick-children es is) d h in
+    let (ds, a, e) = mapped-some (node (call c)) (pick-children es is) d h in
     subst (λ (z : Expr). size z ≤ suc (sizes es)) e (omega (arith, pick-weights es is ds a, total-distinct (weights es) is p, total-weights es))
 
 module _ (m : Meaning) (law : Lawful m) (ss : Schemas) where
@@ -165,8 +156,8 @@ module _ (m : Meaning) (law : Lawful m) (ss : Schemas) where
   simplify-size (node (compute o) es) d h = none-some d h
   simplify-size (node (between o) es) d h = none-some d h
   simplify-size (node (call c) es) d h =
-      let (ts, a, h1) = obind-some (typed-all m ss es) _ d h in
-      let (t, b, h2) = obind-some (typed m ss (node (call c) es)) _ d h1 in
+      let (ts, a, h1) = and-then-some (typed-all m ss es) _ d h in
+      let (t, b, h2) = and-then-some (typed m ss (node (call c) es)) _ d h1 in
       answer-size t es d (m .rule c ts (literals-of es)) (law .once c ts (literals-of es)) h2
 
   itself-size : (d : Expr) (x : Option Expr) → reduce m ss d ≡ x → size (or-itself d x) ≤ size d
@@ -193,25 +184,25 @@ module _ (m : Meaning) (law : Lawful m) (ss : Schemas) where
   all-size : (f : Expr → Option Expr) → ((e d : Expr) → f e ≡ Some d → size d ≤ size e) → (es ds : Exprs) → map-all f es ≡ Some ds → sizes ds ≤ sizes es
   all-size f g nil ds h = subst (λ (z : Exprs). sizes z ≤ 0) (some-same h) (omega arith)
   all-size f g (cons e es) ds h =
-      let (d, a, h1) = obind-some (f e) _ ds h in
-      let (rest, b, h2) = obind-some (map-all f es) _ ds h1 in
+      let (d, a, h1) = and-then-some (f e) _ ds h in
+      let (rest, b, h2) = and-then-some (map-all f es) _ ds h1 in
       subst (λ (z : Exprs). sizes z ≤ size e + sizes es) (some-same h2) (omega (arith, g e d a, all-size f g es rest b))
 
   pub children-size : (f : Expr → Option Expr) → ((e d : Expr) → f e ≡ Some d → size d ≤ size e) → (e d : Expr) → map-children f e ≡ Some d → size d ≤ size e
   children-size f g (logic o a b) d h =
-      let (c, ha, h1) = obind-some (f a) _ d h in
-      let (e, hb, h2) = obind-some (f b) _ d h1 in
+      let (c, ha, h1) = and-then-some (f a) _ d h in
+      let (e, hb, h2) = and-then-some (f b) _ d h1 in
       subst (λ (z : Expr). size z ≤ suc (size a + size b)) (some-same h2) (omega (arith, g a c ha, g b e hb))
   children-size f g (node k es) d h =
-      let (ds, hs, h1) = obind-some (map-all f es) _ d h in
+      let (ds, hs, h1) = and-then-some (map-all f es) _ d h in
       subst (λ (z : Expr). size z ≤ suc (sizes es)) (some-same h1) (omega (arith, all-size f g es ds hs))
 
   pub optimize-size : (k : ℕ) (e d : Expr) → optimize m ss k e ≡ Some d → size d ≤ size e
   unfolding optimize
   optimize-size zero e d h = none-some d h
   optimize-size (suc k) e d h =
-      let (a, ha, h1) = obind-some (rounds m ss 100 e) _ d h in
-      let (b, hb, h2) = obind-some (map-children (optimize m ss k) a) _ d h1 in
+      let (a, ha, h1) = and-then-some (rounds m ss 100 e) _ d h in
+      let (b, hb, h2) = and-then-some (map-children (optimize m ss k) a) _ d h1 in
       omega (arith, rounds-size 100 e a ha, children-size (optimize m ss k) (optimize-size k) a b hb, rounds-size 100 b d h2)
 
 -- ── fusing ──
@@ -230,15 +221,15 @@ fused-size m ss d c b h =
     go p q (inl z) = (ap size (sym (z .2)), ap depth (sym (z .2)))
     go p q (inr z) = (ap size (sym (z .2)), ap depth (sym (z .2)))
 
-place-size : (g : Expr → Option Expr) → ((c b : Expr) → g c ≡ Some b → (size b ≤ suc (size c)) × (depth b ≤ depth c)) → (l k : Expr) → replace-first g l ≡ Some k → (size k ≤ suc (size l)) × (depth k ≤ depth l)
-place-size g f (logic And a b) k h = elim (orelse-some (mapped (λ c. logic And c b) (replace-first g a)) (mapped (λ c. logic And a c) (replace-first g b)) k h) [
-  | inl q ↦ let (c, e, i) = omap-some (λ c. logic And c b) (replace-first g a) k q in let w = place-size g f a c e in
+replace-size : (g : Expr → Option Expr) → ((c b : Expr) → g c ≡ Some b → (size b ≤ suc (size c)) × (depth b ≤ depth c)) → (l k : Expr) → replace-first g l ≡ Some k → (size k ≤ suc (size l)) × (depth k ≤ depth l)
+replace-size g f (logic And a b) k h = elim (orOther-some (mapped (λ c. logic And c b) (replace-first g a)) (mapped (λ c. logic And a c) (replace-first g b)) k h) [
+  | inl q ↦ let (c, e, i) = mapped-some (λ c. logic And c b) (replace-first g a) k q in let w = replace-size g f a c e in
       subst (λ (z : Expr). (size z ≤ suc (suc (size a + size b))) × (depth z ≤ suc (max (depth a) (depth b)))) i (omega arith, omega arith)
-  | inr q ↦ let (c, e, i) = omap-some (λ c. logic And a c) (replace-first g b) k (q .1) in let w = place-size g f b c e in
+  | inr q ↦ let (c, e, i) = mapped-some (λ c. logic And a c) (replace-first g b) k (q .1) in let w = replace-size g f b c e in
       subst (λ (z : Expr). (size z ≤ suc (suc (size a + size b))) × (depth z ≤ suc (max (depth a) (depth b)))) i (omega arith, omega arith)
 ]
-place-size g f (logic Or a b) k h = f (logic Or a b) k h
-place-size g f (node n es) k h = f (node n es) k h
+replace-size g f (logic Or a b) k h = f (logic Or a b) k h
+replace-size g f (node n es) k h = f (node n es) k h
 
 abbrev pub Small : Expr → ℕ → ℕ → Merged → Type 0
 Small l s t (merged k None) = (size k ≤ suc (size l + s)) × (depth k ≤ depth l)
@@ -255,14 +246,14 @@ small-left l a b (merged k (Some d)) h = (omega arith, (h .1 .0, omega arith))
 module _ (m : Meaning) (ss : Schemas) where
   at-leaf : (l r : Expr) (x : Merged) → mapped (λ k. merged k None) (replace-first (fuse m ss r) l) ≡ Some x → Small l (size r) (depth r) x
   at-leaf l r x h =
-      let (k, e, i) = omap-some (λ k. merged k None) (replace-first (fuse m ss r) l) x h in
-      let w = place-size (fuse m ss r) (fused-size m ss r) l k e in
+      let (k, e, i) = mapped-some (λ k. merged k None) (replace-first (fuse m ss r) l) x h in
+      let w = replace-size (fuse m ss r) (fused-size m ss r) l k e in
       subst (Small l (size r) (depth r)) i (omega arith, w .1)
 
   pub merge-small : (l r : Expr) (x : Merged) → merge m ss l r ≡ Some x → Small l (size r) (depth r) x
-  merge-small l (logic And a b) x h = elim (orelse-some (mapped (keep-right b) (merge m ss l a)) (mapped (keep-left a) (merge m ss l b)) x h) [
-    | inl o ↦ let (y, e, i) = omap-some (keep-right b) (merge m ss l a) x o in subst (Small l (suc (size a + size b)) (suc (max (depth a) (depth b)))) i (small-right l a b y (merge-small l a y e))
-    | inr o ↦ let (y, e, i) = omap-some (keep-left a) (merge m ss l b) x (o .1) in subst (Small l (suc (size a + size b)) (suc (max (depth a) (depth b)))) i (small-left l a b y (merge-small l b y e))
+  merge-small l (logic And a b) x h = elim (orOther-some (mapped (keep-right b) (merge m ss l a)) (mapped (keep-left a) (merge m ss l b)) x h) [
+    | inl o ↦ let (y, e, i) = mapped-some (keep-right b) (merge m ss l a) x o in subst (Small l (suc (size a + size b)) (suc (max (depth a) (depth b)))) i (small-right l a b y (merge-small l a y e))
+    | inr o ↦ let (y, e, i) = mapped-some (keep-left a) (merge m ss l b) x (o .1) in subst (Small l (suc (size a + size b)) (suc (max (depth a) (depth b)))) i (small-left l a b y (merge-small l b y e))
   ]
   merge-small l (logic Or a b) x h = at-leaf l (logic Or a b) x h
   merge-small l (node f es) x h = at-leaf l (node f es) x h

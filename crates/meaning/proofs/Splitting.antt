@@ -1,23 +1,20 @@
 -- One merge, read off the lists of conjuncts.
-use mathlib.Core.Path.{_≡_, refl, ap, sym, subst, _∙_}
 use mathlib.Core.List.{List, [], _∷_, _++_, append-assoc, append-nil}
-use mathlib.Core.Logic.{_⊎_, inl, inr}
-use mathlib.Core.Bool.{Bool, true, false, cond}
-use Rattle.vocabulary.specs.declared.types.DType.{DType}
+use mathlib.Core.Logic.{inl, inr}
+use mathlib.Core.Path.{_≡_, refl, ap, sym, subst, _∙_}
+use Rattle.std.specs.Options.{mapped}
 use Rattle.std.specs.declared.option.Option.{Option}
 use Rattle.std.specs.declared.option.Option.the-variants.{Some, None}
-use Rattle.meaning.proofs.Tools.{none-some, some-none, some-same, obind-some, omap-some, omap-none, orelse-some, orelse-none}
-use Rattle.meaning.proofs.Cleaning.{place-none, merge-none, fuse-conjunct, each-map}
-use Rattle.meaning.specs.Outcomes.{and-then}
-use Rattle.std.specs.Options.{mapped, orOther}
-use Rattle.vocabulary.specs.declared.operators.Connective.{Connective}
 use Rattle.vocabulary.specs.declared.operators.Connective.the-variants.{And, Or}
-use Rattle.meaning.specs.Hosts.{Meaning}
 use Rattle.meaning.specs.Columns.{Schemas}
-use Rattle.meaning.specs.Trees.{Fn, Expr, logic, node, Exprs, nil, cons}
 use Rattle.meaning.specs.Conjuncts.{conjuncts, replace-first, Each-conjunct}
 use Rattle.meaning.specs.Fusing.{fuse, Merged, merged, beside, before, keep-right, keep-left, merge}
+use Rattle.meaning.specs.Hosts.{Meaning}
 use Rattle.meaning.specs.LawsOfFusing.{Apart, All, left-over, First-pair}
+use Rattle.meaning.specs.Trees.{Expr, logic, node}
+use Rattle.meaning.proofs.CaseSplits.{mapped-some, mapped-none, orOther-some}
+use Rattle.meaning.proofs.Cleaning.{each-map, replace-none, fuse-conjunct, merge-none}
+use Rattle.meaning.proofs.Fused.{pair}
 
 all-append : (P : Expr → Type 0) (xs ys : List Expr) → All P xs → All P ys → All P (xs ++ ys)
 all-append P [] ys p q = q
@@ -49,13 +46,13 @@ module _ (g : Expr → Option Expr) (single : (c b : Expr) → g c ≡ Some b �
   here : (e k : Expr) → conjuncts e ≡ e ∷ [] → g e ≡ Some k → Placed g e k
   here e k i h = record { c = e; b = k; ls = []; ls′ = []; answered = h; in-left = i; first-left = tt; new-left = single e k h }
 
-  place-splits : (l k : Expr) → replace-first g l ≡ Some k → Placed g l k
-  place-splits (logic And a b) k h = elim (orelse-some (mapped (λ c. logic And c b) (replace-first g a)) (mapped (λ c. logic And a c) (replace-first g b)) k h) [
-    | inl q ↦ let (c, e, i) = omap-some (λ c. logic And c b) (replace-first g a) k q in subst (Placed g (logic And a b)) i (placed-left g a b c (place-splits a c e))
-    | inr q ↦ let (c, e, i) = omap-some (λ c. logic And a c) (replace-first g b) k (q .1) in subst (Placed g (logic And a b)) i (placed-right g a b c (each-list (λ x. g x ≡ None) a (place-none g a (omap-none (λ c. logic And c b) (replace-first g a) (q .0)))) (place-splits b c e))
+  replace-splits : (l k : Expr) → replace-first g l ≡ Some k → Placed g l k
+  replace-splits (logic And a b) k h = elim (orOther-some (mapped (λ c. logic And c b) (replace-first g a)) (mapped (λ c. logic And a c) (replace-first g b)) k h) [
+    | inl q ↦ let (c, e, i) = mapped-some (λ c. logic And c b) (replace-first g a) k q in subst (Placed g (logic And a b)) i (placed-left g a b c (replace-splits a c e))
+    | inr q ↦ let (c, e, i) = mapped-some (λ c. logic And a c) (replace-first g b) k (q .1) in subst (Placed g (logic And a b)) i (placed-right g a b c (each-list (λ x. g x ≡ None) a (replace-none g a (mapped-none (λ c. logic And c b) (replace-first g a) (q .0)))) (replace-splits b c e))
   ]
-  place-splits (logic Or a b) k h = here (logic Or a b) k refl h
-  place-splits (node f es) k h = here (node f es) k refl h
+  replace-splits (logic Or a b) k h = here (logic Or a b) k refl h
+  replace-splits (node f es) k h = here (node f es) k refl h
 
 module _ (m : Meaning) (ss : Schemas) where
   abbrev Merge-of : Expr → Expr → Merged → Type 0
@@ -77,17 +74,17 @@ module _ (m : Meaning) (ss : Schemas) where
 
   at-leaf : (l r : Expr) (x : Merged) → conjuncts r ≡ r ∷ [] → mapped (λ k. merged k None) (replace-first (fuse m ss r) l) ≡ Some x → Merge-of l r x
   at-leaf l r x i h =
-      let (k, e, j) = omap-some (λ k. merged k None) (replace-first (fuse m ss r) l) x h in
-      let p = place-splits (fuse m ss r) (λ c b. fuse-conjunct m ss r c b) l k e in
+      let (k, e, j) = mapped-some (λ k. merged k None) (replace-first (fuse m ss r) l) x h in
+      let p = replace-splits (fuse m ss r) (λ c b. fuse-conjunct m ss r c b) l k e in
       subst (Merge-of l r) j (record { left-partner = p .c; right-partner = r; pair = p .b; left-before = p .ls; left-after = p .ls′; right-before = []; right-after = []; fused = p .answered; in-left = p .in-left; in-right = i; first-left = p .first-left; first-right = tt; new-left = p .new-left; new-right = refl })
 
   splits : (l r : Expr) (x : Merged) → merge m ss l r ≡ Some x → Merge-of l r x
-  splits l (logic And a b) x h = elim (orelse-some (mapped (keep-right b) (merge m ss l a)) (mapped (keep-left a) (merge m ss l b)) x h) [
-    | inl o ↦ let (y, e, i) = omap-some (keep-right b) (merge m ss l a) x o in subst (Merge-of l (logic And a b)) i (merge-left l a b y (splits l a y e))
-    | inr o ↦ let (y, e, i) = omap-some (keep-left a) (merge m ss l b) x (o .1) in subst (Merge-of l (logic And a b)) i (merge-right l a b y (merge-none m ss l a (omap-none (keep-right b) (merge m ss l a) (o .0))) (splits l b y e))
+  splits l (logic And a b) x h = elim (orOther-some (mapped (keep-right b) (merge m ss l a)) (mapped (keep-left a) (merge m ss l b)) x h) [
+    | inl o ↦ let (y, e, i) = mapped-some (keep-right b) (merge m ss l a) x o in subst (Merge-of l (logic And a b)) i (merge-left l a b y (splits l a y e))
+    | inr o ↦ let (y, e, i) = mapped-some (keep-left a) (merge m ss l b) x (o .1) in subst (Merge-of l (logic And a b)) i (merge-right l a b y (merge-none m ss l a (mapped-none (keep-right b) (merge m ss l a) (o .0))) (splits l b y e))
   ]
   splits l (logic Or a b) x h = at-leaf l (logic Or a b) x refl h
   splits l (node f es) x h = at-leaf l (node f es) x refl h
 
-  pub merge-splits : (l r k : Expr) (rest : Option Expr) → merge m ss l r ≡ Some (merged k rest) → First-pair m ss l r k rest
-  merge-splits l r k rest h = splits l r (merged k rest) h
+  pub merging-takes-the-first-pair : (l r k : Expr) (rest : Option Expr) → merge m ss l r ≡ Some (merged k rest) → First-pair m ss l r k rest
+  merging-takes-the-first-pair l r k rest h = splits l r (merged k rest) h

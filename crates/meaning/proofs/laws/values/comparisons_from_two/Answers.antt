@@ -1,4 +1,4 @@
-use Rattle.meaning.proofs.NewLaws.{comparisons-from-two}
+use Rattle.meaning.proofs.Comparisons.{comparisons-from-two}
 use Rattle.meaning.proofs.laws.values.comparisons_from_two.Needs as need
 
 pub returns : need.returns

@@ -1,4 +1,4 @@
-use Rattle.meaning.proofs.NewLaws.{kleene-commutes, kleene-associates}
+use Rattle.meaning.proofs.KleeneLaws.{kleene-commutes, kleene-associates}
 use Rattle.meaning.proofs.laws.values.kleene_logic.Needs as need
 
 pub returns : need.returns

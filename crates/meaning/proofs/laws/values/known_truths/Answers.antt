@@ -1,4 +1,4 @@
-use Rattle.meaning.proofs.NewLaws.{lut-is-kleene, deciding-truths}
+use Rattle.meaning.proofs.KleeneLaws.{lut-is-kleene, deciding-truths}
 use Rattle.meaning.proofs.laws.values.known_truths.Needs as need
 
 pub returns : need.returns

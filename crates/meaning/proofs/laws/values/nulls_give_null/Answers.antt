@@ -1,4 +1,4 @@
-use Rattle.meaning.proofs.NewLaws.{null-compares-to-null, null-computes-to-null}
+use Rattle.meaning.proofs.Comparisons.{null-compares-to-null, null-computes-to-null}
 use Rattle.meaning.proofs.laws.values.nulls_give_null.Needs as need
 
 pub returns : need.returns

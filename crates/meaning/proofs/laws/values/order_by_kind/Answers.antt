@@ -1,4 +1,4 @@
-use Rattle.meaning.proofs.NewLaws.{order-by-kind}
+use Rattle.meaning.proofs.Comparisons.{order-by-kind}
 use Rattle.meaning.proofs.laws.values.order_by_kind.Needs as need
 
 pub returns : need.returns

@@ -1,4 +1,4 @@
-use Rattle.meaning.proofs.NewLaws.{truth-tables-agree}
+use Rattle.meaning.proofs.KleeneLaws.{truth-tables-agree}
 use Rattle.meaning.proofs.laws.values.truth_tables_agree.Needs as need
 
 pub returns : need.returns
