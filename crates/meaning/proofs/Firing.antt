@@ -34,8 +34,9 @@ use Rattle.meaning.specs.Typing.{compare-type, fn-type, typed, typed-all}
 use Rattle.meaning.specs.Values.{Value, null, bool, boolean, is-null, fits}
 use Rattle.meaning.proofs.CaseSplits.{none-some, fault-value, false-true, some-same, value-same, and-then-some}
 use Rattle.meaning.proofs.CaseSplits.{mapped-some, cond-some, then-value, settled-some, settled-then, of-two-some}
+use Rattle.meaning.proofs.FitsTypes.{one-kind, bool-value, cast-same}
 use Rattle.meaning.proofs.KleeneLaws.{kleene-commutes}
-use Rattle.meaning.proofs.Sound.{is-bool, bool-value, cast-same, values-fit, all-values-fit}
+use Rattle.meaning.proofs.ValuesFit.{values-fit, all-values-fit}
 
 -- ── literals ──
 fn-literal-inv : (f : Fn) (es : Exprs) (v : Value) → fn-literal f es ≡ Some v → (t : DType) × (node f es ≡ lit t v)
@@ -138,7 +139,7 @@ or-second : (a b : Bool) → ((a || b) || not b) ≡ true
 or-second a b = grind arith
 
 pub bool-type : (t : DType) → sameKind kind.Bool (t .kind) ≡ true → t ≡ boolean (t .nullable)
-bool-type t p = ap (λ (k : Kind). record { kind = k; nullable = t .nullable }) (is-bool (t .kind) p)
+bool-type t p = ap (λ (k : Kind). record { kind = k; nullable = t .nullable }) (sym (one-kind kind.Bool (t .kind) p))
 
 module _ (m : Meaning) (law : Lawful m) (ss : Schemas) (r : Env) (ok : Env-fits ss r) where
   abbrev Kept : Connective → Bool → Expr → Expr → Expr → Type 0

@@ -1,4 +1,4 @@
-use Rattle.meaning.proofs.Formed.{bound-trees-are-well-formed}
+use Rattle.meaning.proofs.WellFormed.{bound-trees-are-well-formed}
 use Rattle.meaning.proofs.laws.evaluation.bound_trees_are_well_formed.Needs as need
 
 pub returns : need.returns

@@ -1,4 +1,4 @@
-use Rattle.meaning.proofs.Faulting.{infallible-has-value}
+use Rattle.meaning.proofs.InfallibleHasValue.{infallible-has-value}
 use Rattle.meaning.proofs.laws.evaluation.infallible_has_value.Needs as need
 
 pub returns : need.returns

@@ -1,4 +1,4 @@
-use Rattle.meaning.proofs.NewLaws2.{items-fit, items-read-their-place}
+use Rattle.meaning.proofs.RowEnvironments.{items-fit, items-read-their-place}
 use Rattle.meaning.proofs.laws.evaluation.items_read_the_row.Needs as need
 
 pub returns : need.returns

@@ -1,4 +1,4 @@
-use Rattle.meaning.proofs.Placing.{places-name-the-fault}
+use Rattle.meaning.proofs.FaultPlaces.{places-name-the-fault}
 use Rattle.meaning.proofs.laws.evaluation.places_name_the_fault.Needs as need
 
 pub returns : need.returns

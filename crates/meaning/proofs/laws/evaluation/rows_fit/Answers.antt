@@ -1,4 +1,4 @@
-use Rattle.meaning.proofs.Rows.{rows-fit}
+use Rattle.meaning.proofs.RowEnvironments.{rows-fit}
 use Rattle.meaning.proofs.laws.evaluation.rows_fit.Needs as need
 
 pub returns : need.returns

@@ -1,4 +1,4 @@
-use Rattle.meaning.proofs.Rows.{rows-are-roots, items-are-of-roots}
+use Rattle.meaning.proofs.RowsAtRoots.{rows-are-roots, items-are-of-roots}
 use Rattle.meaning.proofs.laws.evaluation.rows_stand_at_roots.Needs as need
 
 pub returns : need.returns

@@ -1,4 +1,4 @@
-use Rattle.meaning.proofs.Sound.{values-fit}
+use Rattle.meaning.proofs.ValuesFit.{values-fit}
 use Rattle.meaning.proofs.laws.evaluation.values_fit.Needs as need
 
 pub returns : need.returns

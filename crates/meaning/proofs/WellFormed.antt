@@ -1,4 +1,4 @@
--- x
+-- An expression that binds never faults as malformed.
 use mathlib.Core.Bool.{Bool, true, false, cond, _||_}
 use mathlib.Core.List.{List, [], _∷_}
 use mathlib.Core.Path.{_≡_, refl, ap, sym, _∙_}
@@ -27,10 +27,12 @@ use Rattle.meaning.specs.Typing.{typed-all}
 use Rattle.meaning.specs.Values.{Value, null, bool, whole, is-null, all-fit}
 use Rattle.meaning.proofs.CaseSplits.{false-true, and-then-some, of-none-is, of-none-some, of-one-some, of-two-some}
 use Rattle.meaning.proofs.CaseSplits.{of-three-some}
-use Rattle.meaning.proofs.Faulting.{item-some, item-solid}
-use Rattle.meaning.proofs.Rows.{item-rowless}
-use Rattle.meaning.proofs.Sound.{fit-nil, fit-one, fit-two, fit-three, all-values-fit}
+use Rattle.meaning.proofs.FitsTypes.{fit-nil, fit-one, fit-two, fit-three}
+use Rattle.meaning.proofs.InfallibleHasValue.{item-some, item-solid}
+use Rattle.meaning.proofs.RowsAtRoots.{item-rowless}
+use Rattle.meaning.proofs.ValuesFit.{all-values-fit}
 
+-- a value, or a fault of another cause
 abbrev formed : {A : Type 0} → Outcome A → Bool
 formed (value a) = true
 formed (fault arithmetic) = true
@@ -38,7 +40,9 @@ formed (fault unlike) = true
 formed (fault (host c)) = true
 formed (fault malformed) = false
 
-then-formed : {A B : Type 0} (x : Outcome A) (f : A → Outcome B) → formed x ≡ true → ((a : A) → x ≡ value a → formed (f a) ≡ true) → formed (then x f) ≡ true
+-- going on from such an outcome to such outcomes
+then-formed : {A B : Type 0} (x : Outcome A) (f : A → Outcome B) → formed x ≡ true
+    → ((a : A) → x ≡ value a → formed (f a) ≡ true) → formed (then x f) ≡ true
 then-formed (value a) f p q = q a refl
 then-formed (fault arithmetic) f p q = refl
 then-formed (fault unlike) f p q = refl
@@ -52,16 +56,20 @@ compares-formed c v w = go (is-null v || is-null w) (alike v w) (holds c v w)
     go a b h = grind arith
 
 between-formed : (o : BetweenOptions) (x l u : Value) → formed (lies-between o x l u) ≡ true
-between-formed o x l u = then-formed (compares (bound-operator (o .«lower_strict»)) l x) _ (compares-formed (bound-operator (o .«lower_strict»)) l x) (λ a e. then-formed (compares (bound-operator (o .«upper_strict»)) x u) _ (compares-formed (bound-operator (o .«upper_strict»)) x u) (λ b i. refl))
+between-formed o x l u =
+    then-formed (compares (bound-operator (o .«lower_strict»)) l x) _
+    (compares-formed (bound-operator (o .«lower_strict»)) l x)
+    (λ a e.
+    then-formed (compares (bound-operator (o .«upper_strict»)) x u) _
+    (compares-formed (bound-operator (o .«upper_strict»)) x u) (λ b i. refl))
 
 computes-formed : (o : Arithmetic) (v w : Value) → formed (computes o v w) ≡ true
 unfolding compute-signed compute-unsigned
 computes-formed o v w = grind arith
 
-value-formed : {A : Type 0} (x : Outcome A) (a : A) → x ≡ value a → formed x ≡ true
-value-formed x a p = ap formed p
-
-host-formed : (vs : List Value) (x : Reply) → ((i : ℕ) → x ≡ argument i → i < length vs) → formed (reply-value vs x) ≡ true
+-- a reply that names arguments only where they are
+host-formed : (vs : List Value) (x : Reply) → ((i : ℕ) → x ≡ argument i → i < length vs)
+    → formed (reply-value vs x) ≡ true
 host-formed vs (argument i) n = go vs i (n i refl)
   where
     go : (vs : List Value) (i : ℕ) → i < length vs → formed (argument-value (nth vs i)) ≡ true
@@ -71,8 +79,12 @@ host-formed vs (argument i) n = go vs i (n i refl)
 host-formed vs (plain k) n = refl
 host-formed vs (fails c) n = refl
 
-module _ (m : Meaning) (law : Lawful m) (na : Names-arguments m) (ss : Schemas) (r : Env) (ok : Env-fits ss r) (plainly : Columns-plain ss) where
-  fn-formed : (f : Fn) (ts : List DType) (vs : List Value) (t : DType) → fn-type m ss f ts ≡ Some t → all-fit vs ts ≡ true → ((u : DType) (s : ℕ) → ts ≡ u ∷ [] → u .kind ≡ kind.Row s → u .nullable ≡ false) → formed (fn-value m r f vs) ≡ true
+module _ (m : Meaning) (law : Lawful m) (na : Names-arguments m) (ss : Schemas) (r : Env) (ok : Env-fits ss r)
+    (plainly : Columns-plain ss) where
+  -- a node over fitting values
+  fn-formed : (f : Fn) (ts : List DType) (vs : List Value) (t : DType) → fn-type m ss f ts ≡ Some t
+      → all-fit vs ts ≡ true → ((u : DType) (s : ℕ) → ts ≡ u ∷ [] → u .kind ≡ kind.Row s → u .nullable ≡ false)
+      → formed (fn-value m r f vs) ≡ true
   unfolding fn-type fn-value
   fn-formed (root s) ts vs t p q o =
       let (e, g) = of-none-is _ ts t p in
@@ -105,21 +117,29 @@ module _ (m : Meaning) (law : Lawful m) (na : Names-arguments m) (ss : Schemas) 
   fn-formed (call c) ts vs t p q o = host-formed vs (m .gives c vs) (λ i e. na c i ts t vs p q e)
 
 mutual
-  eval-formed : (m : Meaning) → Lawful m → Names-arguments m → (ss : Schemas) (r : Env) → Env-fits ss r → Columns-plain ss → (e : Expr) (t : DType) → typed m ss e ≡ Some t → formed (eval m r e) ≡ true
+  -- an expression that binds
+  eval-formed : (m : Meaning) → Lawful m → Names-arguments m → (ss : Schemas) (r : Env) → Env-fits ss r
+      → Columns-plain ss → (e : Expr) (t : DType) → typed m ss e ≡ Some t → formed (eval m r e) ≡ true
   eval-formed m law na ss r ok plainly (logic o a b) t p =
       let (ta, pa, p1) = and-then-some (typed m ss a) _ t p in
       let (tb, pb, p2) = and-then-some (typed m ss b) _ t p1 in
-      then-formed (eval m r a) _ (eval-formed m law na ss r ok plainly a ta pa) (λ v x. then-formed (eval m r b) _ (eval-formed m law na ss r ok plainly b tb pb) (λ w y. refl))
+      then-formed (eval m r a) _ (eval-formed m law na ss r ok plainly a ta pa)
+      (λ v x. then-formed (eval m r b) _ (eval-formed m law na ss r ok plainly b tb pb) (λ w y. refl))
   eval-formed m law na ss r ok plainly (node f es) t p =
       let (ts, ps, p1) = and-then-some (typed-all m ss es) _ t p in
-      then-formed (evals m r es) _ (evals-formed m law na ss r ok plainly es ts ps) (λ vs x. fn-formed m law na ss r ok plainly f ts vs t p1 (all-values-fit m law ss r ok es ts vs ps x) (item-solid m law ss plainly es ts ps))
+      then-formed (evals m r es) _ (evals-formed m law na ss r ok plainly es ts ps)
+      (λ vs x. fn-formed m law na ss r ok plainly f ts vs t p1 (all-values-fit m law ss r ok es ts vs ps x)
+      (item-solid m law ss plainly es ts ps))
 
-  evals-formed : (m : Meaning) → Lawful m → Names-arguments m → (ss : Schemas) (r : Env) → Env-fits ss r → Columns-plain ss → (es : Exprs) (ts : List DType) → typed-all m ss es ≡ Some ts → formed (evals m r es) ≡ true
+  evals-formed : (m : Meaning) → Lawful m → Names-arguments m → (ss : Schemas) (r : Env) → Env-fits ss r
+      → Columns-plain ss → (es : Exprs) (ts : List DType) → typed-all m ss es ≡ Some ts → formed (evals m r es) ≡ true
   evals-formed m law na ss r ok plainly nil ts p = refl
   evals-formed m law na ss r ok plainly (cons e es) ts p =
       let (ta, pa, p1) = and-then-some (typed m ss e) _ ts p in
       let (tb, pb, p2) = and-then-some (typed-all m ss es) _ ts p1 in
-      then-formed (eval m r e) _ (eval-formed m law na ss r ok plainly e ta pa) (λ v x. then-formed (evals m r es) _ (evals-formed m law na ss r ok plainly es tb pb) (λ w y. refl))
+      then-formed (eval m r e) _ (eval-formed m law na ss r ok plainly e ta pa)
+      (λ v x. then-formed (evals m r es) _ (evals-formed m law na ss r ok plainly es tb pb) (λ w y. refl))
 
 pub bound-trees-are-well-formed : Bound-trees-are-well-formed
-bound-trees-are-well-formed m law na ss r ok plainly e t p h = false-true (sym (ap formed h) ∙ eval-formed m law na ss r ok plainly e t p)
+bound-trees-are-well-formed m law na ss r ok plainly e t p h =
+    false-true (sym (ap formed h) ∙ eval-formed m law na ss r ok plainly e t p)
