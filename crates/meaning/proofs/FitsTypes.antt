@@ -25,7 +25,6 @@ use Rattle.meaning.specs.Computing.{magnitude, with-sign, signed-result, unsig
 use Rattle.meaning.specs.Computing.{compute-unsigned, computes}
 use Rattle.meaning.specs.Kleene.{truth, of-truth, kleene}
 use Rattle.meaning.specs.Outcomes.{arithmetic, unlike, Outcome, value, fault}
-use Rattle.meaning.specs.Rules.{nullable}
 use Rattle.meaning.specs.Typing.{logic-type, compare-type, compute-type, between-type, cast-type}
 use Rattle.meaning.specs.Values.{Value, null, bool, signed, unsigned, text, ext, whole, boolean, is-null, fits}
 use Rattle.meaning.specs.Values.{all-fit}

@@ -23,7 +23,7 @@ use Rattle.meaning.specs.Trees.{Exprs, nil, cons, nth-child, depth, depths}
 use Rattle.meaning.specs.Typing.{typed, typed-all}
 use Rattle.meaning.specs.Values.{Value, null, bool, boolean}
 use Rattle.meaning.proofs.CaseSplits.{none-some, some-none, some-same, and-then-some, and-then-refused, mapped-some}
-use Rattle.meaning.proofs.Firing.{reduce-simplify}
+use Rattle.meaning.proofs.RoundsOfRules.{reduce-simplify, rounds-rest, no-round, rounds-over}
 
 module _ (m : Meaning) (ss : Schemas) where
   -- within k levels, and no round changes at any of them
@@ -159,10 +159,6 @@ module _ (m : Meaning) (ss : Schemas) where
       rounds-settled (Settled k) (settled-children k) 100 b d (children-settled (Settled k) (optimize m ss k) (optimize-settled k) a b hb) h2
 
   -- a settled tree is its own answer
-  pub rounds-rest : (k : ℕ) (e : Expr) → round m ss e ≡ None → rounds m ss k e ≡ Some e
-  unfolding rounds
-  rounds-rest zero e h = ap (rounds-step (λ (d : Expr). None) e) h
-  rounds-rest (suc k) e h = ap (rounds-step (rounds m ss k) e) h
 
   all-rest : (P : Expr → Type 0) (f : Expr → Option Expr) → ((e : Expr) → P e → f e ≡ Some e) → (es : Exprs) → Settled-by P es → map-all f es ≡ Some es
   all-rest P f g nil h = refl
@@ -175,15 +171,7 @@ module _ (m : Meaning) (ss : Schemas) where
   optimize-rest : (k : ℕ) (e : Expr) → Settled k e → optimize m ss k e ≡ Some e
   unfolding optimize
   optimize-rest zero e h = absurd h
-  optimize-rest (suc k) e h = simp (rounds-rest 100 e (h .0), children-rest (Settled k) (optimize m ss k) (optimize-rest k) e (h .1))
-
-  round-none : (e : Expr) (x : Option Expr) → simplify m ss e ≡ x → round-by x (reduce m ss) e ≡ None → (simplify m ss e ≡ None) × (reduce m ss e ≡ None)
-  round-none e None i h = (i, h)
-  round-none e (Some d) i h = some-none _ h
-
-  pub no-round : (e : Expr) → round m ss e ≡ None → (simplify m ss e ≡ None) × (reduce m ss e ≡ None)
-  unfolding round
-  no-round e h = round-none e (simplify m ss e) refl h
+  optimize-rest (suc k) e h = simp (rounds-rest m ss 100 e (h .0), children-rest (Settled k) (optimize m ss k) (optimize-rest k) e (h .1))
 
   all-normal : (P : Expr → Type 0) → ((e : Expr) → P e → Normal m ss e) → (es : Exprs) → Settled-by P es → Normals m ss es
   all-normal P f nil h = tt
@@ -191,8 +179,8 @@ module _ (m : Meaning) (ss : Schemas) where
 
   pub settled-normal : (k : ℕ) (e : Expr) → Settled k e → Normal m ss e
   settled-normal zero e h = absurd h
-  settled-normal (suc k) (logic o a b) h = (no-round (logic o a b) (h .0), (settled-normal k a (h .1 .0), settled-normal k b (h .1 .1)))
-  settled-normal (suc k) (node f es) h = (no-round (node f es) (h .0), all-normal (Settled k) (settled-normal k) es (h .1))
+  settled-normal (suc k) (logic o a b) h = (no-round m ss (logic o a b) (h .0), (settled-normal k a (h .1 .0), settled-normal k b (h .1 .1)))
+  settled-normal (suc k) (node f es) h = (no-round m ss (node f es) (h .0), all-normal (Settled k) (settled-normal k) es (h .1))
 
   pub optimized-is-normal : (k : ℕ) (e d : Expr) → optimize m ss k e ≡ Some d → Normal m ss d × (optimize m ss k d ≡ Some d)
   optimized-is-normal k e d h = let s = optimize-settled k e d h in (settled-normal k d s, optimize-rest k d s)
@@ -237,14 +225,6 @@ module _ (m : Meaning) (ss : Schemas) where
       ap (λ (z : ℕ). optimize m ss z e) i ∙ one-more (j + k) e (omega arith) ∙ depth-suffices j k e h
 
   -- ── refusals ──
-  step-over : (more : Expr → Option Expr) (j : ℕ) → ((e : Expr) → more e ≡ None → Changing m ss j e) → (e : Expr) (x : Option Expr) → round m ss e ≡ x → rounds-step more e x ≡ None → Changing m ss (suc j) e
-  step-over more j f e None i h = some-none e h
-  step-over more j f e (Some d) i h = (d, i, f d h)
-
-  pub rounds-over : (k : ℕ) (e : Expr) → rounds m ss k e ≡ None → Changing m ss (suc k) e
-  unfolding rounds
-  rounds-over zero e h = step-over (λ d. None) 0 (λ d i. tt) e (round m ss e) refl h
-  rounds-over (suc k) e h = step-over (rounds m ss k) (suc k) (rounds-over k) e (round m ss e) refl h
 
   one-refused : (P : Expr → Type 0) (f : Expr → Option Expr) (es : Exprs) → Settled-by P es → map-all f es ≡ None → One-of (λ c. P c × (f c ≡ None)) es
   one-refused P f nil p h = some-none nil h
@@ -277,7 +257,7 @@ module _ (m : Meaning) (ss : Schemas) where
   unfolding optimize
   refused-only-for-a-101st-round zero e p h = absurd (omega (arith, depth-some e))
   refused-only-for-a-101st-round (suc k) e p h = elim (and-then-refused (rounds m ss 100 e) _ h) [
-    | inl q ↦ (e, inl refl, rounds-over 100 e q)
+    | inl q ↦ (e, inl refl, rounds-over m ss 100 e q)
     | inr q ↦
         let (d, i, g) = q in
         let w = rounds-settled (λ c. depth c ≤ k) (depth-down k) 100 e d (depth-within k e p) i .1 in
@@ -285,7 +265,7 @@ module _ (m : Meaning) (ss : Schemas) where
           | inl o ↦
               let (x, t, c) = child-over k (λ c. (depth c ≤ k) × (optimize m ss k c ≡ None)) (λ c z. refused-only-for-a-101st-round k c (z .0) (z .1)) d (child-refused (λ c. depth c ≤ k) (optimize m ss k) d w o) in
               (x, inr (d, i, inl t), c)
-          | inr o ↦ (o .0, inr (d, i, inr (o .1)), rounds-over 100 (o .0) (o .2))
+          | inr o ↦ (o .0, inr (d, i, inr (o .1)), rounds-over m ss 100 (o .0) (o .2))
         ]
   ]
 

@@ -21,7 +21,6 @@ use Rattle.meaning.specs.LawsOfEvaluating.{Rows-fit, Items-fit, Items-read-the
 use Rattle.meaning.specs.Lists.{nth}
 use Rattle.meaning.specs.Ranges.{column-tree}
 use Rattle.meaning.specs.Rows.{row-fits, value-in, some-value, value-or, or-no-columns, columns-of, row-env}
-use Rattle.meaning.specs.Rules.{nullable}
 use Rattle.meaning.specs.Typing.{fn-type, typed}
 use Rattle.meaning.specs.Values.{Value, fits}
 use Rattle.meaning.proofs.CaseSplits.{none-some, false-true, some-same, and-then-some}

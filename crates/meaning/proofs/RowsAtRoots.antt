@@ -14,7 +14,6 @@ use Rattle.meaning.specs.Columns.{Schemas, Columns-plain}
 use Rattle.meaning.specs.Hosts.{Meaning}
 use Rattle.meaning.specs.Lawful.{Lawful}
 use Rattle.meaning.specs.LawsOfEvaluating.{Rows-are-roots, Items-are-of-roots}
-use Rattle.meaning.specs.Rules.{nullable}
 use Rattle.meaning.specs.Trees.{Fn, root, literal, get-item, cast, compare, compute, between, call, Expr, logic, node}
 use Rattle.meaning.specs.Trees.{Exprs, nil, cons}
 use Rattle.meaning.specs.Typing.{is-number, item-type, compare-type, compute-type, between-type, cast-type, fn-type}

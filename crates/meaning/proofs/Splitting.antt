@@ -14,7 +14,6 @@ use Rattle.meaning.specs.LawsOfFusing.{Apart, All, left-over, First-pair}
 use Rattle.meaning.specs.Trees.{Expr, logic, node}
 use Rattle.meaning.proofs.CaseSplits.{mapped-some, mapped-none, orOther-some}
 use Rattle.meaning.proofs.Cleaning.{each-map, replace-none, fuse-conjunct, merge-none}
-use Rattle.meaning.proofs.Fused.{pair}
 
 all-append : (P : Expr → Type 0) (xs ys : List Expr) → All P xs → All P ys → All P (xs ++ ys)
 all-append P [] ys p q = q

@@ -1,4 +1,4 @@
-use Rattle.meaning.proofs.Firing.{simplify-keeps, reduce-keeps, round-keeps}
+use Rattle.meaning.proofs.RulesKeepValue.{simplify-keeps, reduce-keeps, round-keeps}
 use Rattle.meaning.proofs.laws.rewriting.rules_keep.Needs as need
 
 pub returns : need.returns
