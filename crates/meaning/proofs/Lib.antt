@@ -3,6 +3,7 @@ pub mod CaseSplits
 pub mod Cleaning
 pub mod Comparisons
 pub mod DeclaredColumns
+pub mod DepthSuffices
 pub mod FaultPlaces
 pub mod FitsTypes
 pub mod Fused
@@ -13,7 +14,8 @@ pub mod KleeneLaws
 pub mod LiteralOperands
 pub mod LogicRules
 pub mod NullComparisons
-pub mod Resting
+pub mod OptimizedIsNormal
+pub mod RefusedRounds
 pub mod RoundsOfRules
 pub mod RowEnvironments
 pub mod RowsAtRoots
