@@ -30,7 +30,7 @@ use Rattle.meaning.specs.Typing.{typed, typed-all}
 use Rattle.meaning.specs.Values.{Value, null, bool, boolean}
 use Rattle.meaning.proofs.CaseSplits.{none-some, some-same, and-then-some, mapped-some, orOther-some}
 use Rattle.meaning.proofs.DepthSuffices.{optimize-depth}
-use Rattle.meaning.proofs.Fused.{Ranges, range-inv, Sides, fuse-inv}
+use Rattle.meaning.proofs.RangeForms.{Ranges, range-inv, Sides, fuse-inv}
 use Rattle.meaning.proofs.RoundsOfRules.{reduce-simplify}
 
 -- ── some of the children, each at most once ──

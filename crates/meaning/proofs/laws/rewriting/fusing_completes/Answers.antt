@@ -1,4 +1,4 @@
-use Rattle.meaning.proofs.Cleaning.{fusing-completes}
+use Rattle.meaning.proofs.NoPairStraddles.{fusing-completes}
 use Rattle.meaning.proofs.laws.rewriting.fusing_completes.Needs as need
 
 pub returns : need.returns

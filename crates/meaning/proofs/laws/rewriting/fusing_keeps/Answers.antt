@@ -1,4 +1,4 @@
-use Rattle.meaning.proofs.Fused.{fusing-keeps}
+use Rattle.meaning.proofs.FusedKeepsValue.{fusing-keeps}
 use Rattle.meaning.proofs.laws.rewriting.fusing_keeps.Needs as need
 
 pub returns : need.returns
