@@ -12,19 +12,19 @@ use Rattle.meaning.specs.LawsOfFusing.{Apart, All, left-over, First-pair, Merg
 use Rattle.meaning.specs.Trees.{Expr, logic, node}
 use Rattle.meaning.proofs.ConjunctCases.{Single, single-conjuncts, each-map, replace-none, replace-cases, merge-cases}
 use Rattle.meaning.proofs.ConjunctCases.{merge-none}
-use Rattle.meaning.proofs.RangeForms.{fuse-is-between}
+use Rattle.meaning.proofs.RangeForms.{pair, fuse-is-between}
 
 all-append : (P : Expr → Type 0) (xs ys : List Expr) → All P xs → All P ys → All P (xs ++ ys)
 all-append P [] ys p q = q
 all-append P (x ∷ xs) ys p q = (p .0, all-append P xs ys (p .1) q)
 
--- each conjunct, as a tree and as a list
+-- what holds of each conjunct holds of each in the list of conjuncts
 each-list : (P : Expr → Type 0) (e : Expr) → Each-conjunct P e → All P (conjuncts e)
 each-list P (logic And a b) h = all-append P (conjuncts a) (conjuncts b) (each-list P a (h .0)) (each-list P b (h .1))
 each-list P (logic Or a b) h = (h, tt)
 each-list P (node f es) h = (h, tt)
 
--- one conjunct of l in k's place has the answer for it, and none before it has one
+-- k is l with one conjunct replaced by the answer for it, the first that has one
 record Replaced (g : Expr → Option Expr) (l k : Expr) : Type 0 where
   old : Expr
   new : Expr
@@ -85,6 +85,7 @@ replace-splits g single =
     })
 
 module _ (m : Meaning) (ss : Schemas) where
+  -- the Between of a pair is a conjunct of its own
   fuse-conjunct : (d c b : Expr) → fuse m ss d c ≡ Some b → conjuncts b ≡ b ∷ []
   fuse-conjunct d c b h =
       let (p, q, e) = fuse-is-between m ss d c b h in subst (λ (z : Expr). conjuncts z ≡ z ∷ []) e refl

@@ -17,6 +17,7 @@ pub mod LiteralOperands
 pub mod LogicRules
 pub mod MergeSums
 pub mod NoPairStraddles
+pub mod NothingGrows
 pub mod NullComparisons
 pub mod OptimizedIsNormal
 pub mod RangeForms
@@ -25,7 +26,7 @@ pub mod RoundsOfRules
 pub mod RowEnvironments
 pub mod RowsAtRoots
 pub mod RulesKeepValue
-pub mod Sizes
+pub mod RulesShrink
 pub mod ValuesFit
 pub mod WellFormed
-pub mod Worked
+pub mod WorkedCases

@@ -84,34 +84,31 @@ module _ (m : Meaning) (ss : Schemas) where
   Rest P None = Unit {0}
   Rest P (Some e) = P e
 
-  -- the left side has P, and what is left of the right side Q
-  abbrev Of-merged : (Expr → Type 0) → (Option Expr → Type 0) → Merged → Type 0
-  Of-merged P Q (merged k x) = P k × Q x
+  -- what is left of the right side has P
+  abbrev Right : (Expr → Type 0) → Merged → Type 0
+  Right P (merged k x) = Rest P x
 
-  abbrev With-right : (Expr → Type 0) → Merged → Type 0
-  With-right P x = Of-merged (λ k. Unit {0}) (Rest P) x
+  each-beside : (P : Expr → Type 0) (b : Expr) (x : Merged) → Right (Each-conjunct P) x → Each-conjunct P b
+      → Right (Each-conjunct P) (keep-right b x)
+  each-beside P b (merged k None) h p = p
+  each-beside P b (merged k (Some a)) h p = (h, p)
 
-  each-beside : (P : Expr → Type 0) (b : Expr) (x : Merged) → With-right (Each-conjunct P) x → Each-conjunct P b
-      → With-right (Each-conjunct P) (keep-right b x)
-  each-beside P b (merged k None) h p = (tt, p)
-  each-beside P b (merged k (Some a)) h p = (tt, (h .1, p))
-
-  each-before : (P : Expr → Type 0) (a : Expr) (x : Merged) → With-right (Each-conjunct P) x → Each-conjunct P a
-      → With-right (Each-conjunct P) (keep-left a x)
-  each-before P a (merged k None) h p = (tt, p)
-  each-before P a (merged k (Some b)) h p = (tt, (p, h .1))
+  each-before : (P : Expr → Type 0) (a : Expr) (x : Merged) → Right (Each-conjunct P) x → Each-conjunct P a
+      → Right (Each-conjunct P) (keep-left a x)
+  each-before P a (merged k None) h p = p
+  each-before P a (merged k (Some b)) h p = (p, h)
 
   -- what holds of each right conjunct holds of each that is left
   merge-each : (P : Expr → Type 0) (l r : Expr) (x : Merged) → merge m ss l r ≡ Some x → Each-conjunct P r
-      → With-right (Each-conjunct P) x
+      → Right (Each-conjunct P) x
   merge-each P l =
-      merge-cases m ss l (λ r x. Each-conjunct P r → With-right (Each-conjunct P) x)
+      merge-cases m ss l (λ r x. Each-conjunct P r → Right (Each-conjunct P) x)
       (λ a b y e i p. each-beside P b y (i (p .0)) (p .1)) (λ a b y n e i p. each-before P a y (i (p .1)) (p .0))
-      (λ r k s e p. (tt, tt))
+      (λ r k s e p. tt)
 
   -- no pair is left in either side
   abbrev Both-fused : Merged → Type 0
-  Both-fused x = Of-merged (Fused m ss) (Rest (Fused m ss)) x
+  Both-fused (merged k x) = Fused m ss k × Rest (Fused m ss) x
 
   fused-beside : (l a b : Expr) (x : Merged) → merge m ss l a ≡ Some x → Both-fused x → Fused m ss b → Apart m ss a b
       → Both-fused (keep-right b x)
@@ -121,7 +118,7 @@ module _ (m : Meaning) (ss : Schemas) where
     (
       (h .1, p),
       each-map (λ d. Each-conjunct (λ x. fuse m ss d x ≡ None) a) (λ d. Each-conjunct (λ x. fuse m ss d x ≡ None) c)
-          (λ d i. merge-each (λ x. fuse m ss d x ≡ None) l a (merged k (Some c)) e i .1) b o,
+          (λ d i. merge-each (λ x. fuse m ss d x ≡ None) l a (merged k (Some c)) e i) b o,
     ),
   )
 
@@ -130,7 +127,7 @@ module _ (m : Meaning) (ss : Schemas) where
   fused-before l a b (merged k None) e h p o = (h .0, p)
   fused-before l a b (merged k (Some c)) e h p o = (
     h .0,
-    ((p, h .1), merge-each (λ d. Each-conjunct (λ x. fuse m ss d x ≡ None) a) l b (merged k (Some c)) e o .1),
+    ((p, h .1), merge-each (λ d. Each-conjunct (λ x. fuse m ss d x ≡ None) a) l b (merged k (Some c)) e o),
   )
 
   -- a merge leaves no pair in either side where there was none

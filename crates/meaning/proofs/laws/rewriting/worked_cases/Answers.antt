@@ -1,4 +1,4 @@
-use Rattle.meaning.proofs.Worked.{worked-cases}
+use Rattle.meaning.proofs.WorkedCases.{worked-cases}
 use Rattle.meaning.proofs.laws.rewriting.worked_cases.Needs as need
 
 pub returns : need.returns
