@@ -125,6 +125,16 @@ module _ (m : Meaning) (ss : Schemas) where
   in-before a None = sym (append-nil (conjuncts a))
   in-before a (Some b) = refl
 
+  -- y has no partner among the conjuncts of l
+  abbrev Alone : Expr → Expr → Type 0
+  Alone l y = All (λ x. fuse m ss y x ≡ None) (conjuncts l)
+
+  apart-alone : (l a : Expr) → Apart m ss l a → All (Alone l) (conjuncts a)
+  apart-alone l a h =
+      each-list (Alone l) a
+      (each-map (λ y. Each-conjunct (λ x. fuse m ss y x ≡ None) l) (Alone l)
+      (λ y i. each-list (λ x. fuse m ss y x ≡ None) l i) a h)
+
   -- a merge in the right part, where the left part has no partner
   merge-right : (l a b : Expr) (x : Merged) → Apart m ss l a → Merge-of l b x
       → Merge-of l (logic And a b) (keep-left a x)
@@ -142,11 +152,7 @@ module _ (m : Meaning) (ss : Schemas) where
         in-right = ap (λ (z : List Expr). conjuncts a ++ z) (p .in-right)
             ∙ sym (append-assoc (conjuncts a) (p .right-before) (p .right-partner ∷ p .right-after));
         first-left = p .first-left;
-        first-right = all-append (λ y. All (λ x. fuse m ss y x ≡ None) (conjuncts l)) (conjuncts a) (p .right-before)
-            (each-list (λ y. All (λ x. fuse m ss y x ≡ None) (conjuncts l)) a
-            (each-map (λ y. Each-conjunct (λ x. fuse m ss y x ≡ None) l)
-            (λ y. All (λ x. fuse m ss y x ≡ None) (conjuncts l)) (λ y i. each-list (λ x. fuse m ss y x ≡ None) l i) a h))
-            (p .first-right);
+        first-right = all-append (Alone l) (conjuncts a) (p .right-before) (apart-alone l a h) (p .first-right);
         new-left = p .new-left;
         new-right = in-before a x
             ∙ ap (λ (z : List Expr). conjuncts a ++ z) (p .new-right)

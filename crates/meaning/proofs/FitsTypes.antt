@@ -31,7 +31,7 @@ use Rattle.meaning.specs.Values.{all-fit}
 use Rattle.meaning.proofs.CaseSplits.{fault-value, false-true, value-same, cond-some, then-value}
 
 -- null fits nullable types alone
-pub null-fits : (v : Value) (t : DType) → is-null v ≡ true → fits v t ≡ true → t .nullable ≡ true
+null-fits : (v : Value) (t : DType) → is-null v ≡ true → fits v t ≡ true → t .nullable ≡ true
 null-fits null t p q = q
 null-fits (bool b) t p q = false-true p
 null-fits (signed z) t p q = false-true p
