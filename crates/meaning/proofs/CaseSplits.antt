@@ -28,6 +28,7 @@ fault-value x a p = let z : _≡_ {A = ℕ} 0 1 = cc in absurd (omega arith)
 pub false-true : {B : Type 0} → false ≡ true → B
 false-true p = let z : _≡_ {A = ℕ} 0 1 = cc in absurd (omega arith)
 
+-- what a constructor holds is one where the results are
 pub some-same : {A : Type 0} {a b : A} → Some a ≡ Some b → a ≡ b
 some-same p = cc
 
@@ -88,6 +89,7 @@ pub settled-some : {A : Type 0} (x : Outcome A) (a : A) → settled x ≡ Some a
 settled-some (value b) a p = ap value (some-same p)
 settled-some (fault x) a p = none-some a p
 
+-- going on, faults left out
 pub settled-then : {A B : Type 0} (x : Outcome A) (f : A → Outcome B)
     → settled (then x f) ≡ and-then (settled x) (λ (a : A). settled (f a))
 settled-then (value a) f = refl

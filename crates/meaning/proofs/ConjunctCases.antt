@@ -20,6 +20,7 @@ Single (logic And a b) = ⊥
 Single (logic Or a b) = Unit {0}
 Single (node f es) = Unit {0}
 
+-- it is the list of its conjuncts, one in number, and what holds of it holds of each
 pub single-conjuncts : (e : Expr) → Single e → conjuncts e ≡ e ∷ []
 single-conjuncts (logic And a b) s = absurd s
 single-conjuncts (logic Or a b) s = refl
@@ -41,6 +42,7 @@ each-all P f (logic And a b) = (each-all P f a, each-all P f b)
 each-all P f (logic Or a b) = f (logic Or a b)
 each-all P f (node g es) = f (node g es)
 
+-- what follows for each expression follows for each conjunct
 pub each-map : (P Q : Expr → Type 0) → ((e : Expr) → P e → Q e) → (e : Expr) → Each-conjunct P e → Each-conjunct Q e
 each-map P Q f (logic And a b) h = (each-map P Q f a (h .0), each-map P Q f b (h .1))
 each-map P Q f (logic Or a b) h = f (logic Or a b) h

@@ -47,6 +47,7 @@ one-kind k l p = grind (arith, tells)
 eqb-commutes : (a b : ℕ) → eqb a b ≡ eqb b a
 eqb-commutes a b = grind (arith, tells)
 
+-- the test of two kinds does not go by their order
 pub kinds-commute : (k l : Kind) → sameKind k l ≡ sameKind l k
 kinds-commute k l = simp eqb-commutes
 
@@ -72,13 +73,13 @@ compare-result c t u v w x p q h =
     elim (compare-ways (is-null v || is-null w) (alike v w) (holds c v w) x h)
     [ inl e ↦ rw (e .0) (or-nulls t u v w p q (e .1)) | inr e ↦ rw e refl ]
 
--- a comparison
+-- what a comparison gives fits its type
 pub compare-fits : (c : CompareOperator) (t u s : DType) (v w x : Value) → compare-type t u ≡ Some s → fits v t ≡ true
     → fits w u ≡ true → compares c v w ≡ value x → fits x s ≡ true
 compare-fits c t u s v w x p q h k =
     subst (λ (z : DType). fits x z ≡ true) (cond-some _ _ _ p .1) (compare-result c t u v w x q h k)
 
--- And and Or
+-- what And and Or give fits
 pub logic-fits : (o : Connective) (t u s : DType) (v w : Value) → logic-type t u ≡ Some s → fits v t ≡ true
     → fits w u ≡ true → fits (kleene o v w) s ≡ true
 logic-fits o t u s v w p q h = grind (arith, null-fits)
@@ -92,6 +93,7 @@ unsigned-result-fits : (n : ℕ) (v : Value) → unsigned-result n ≡ value v �
     → fits v (record { kind = kind.U64; nullable = b }) ≡ true
 unsigned-result-fits n v p b = grind arith
 
+-- a value under a test for a fault passed the test
 past-fault : (c : Bool) (y : Outcome Value) (v : Value) → cond c (fault arithmetic) y ≡ value v → y ≡ value v
 past-fault true y v p = fault-value arithmetic v p
 past-fault false y v p = p
@@ -114,6 +116,7 @@ unsigned-fits Sub a b v n p = unsigned-result-fits (a - b) v (past-fault (ltb a 
 unsigned-fits Mul a b v n p = unsigned-result-fits (a * b) v p n
 unsigned-fits Div a b v n p = unsigned-result-fits (a / b) v (past-fault (eqb b 0) (unsigned-result (a / b)) v p) n
 
+-- an operation on numbers gives a number of the left operand's kind, or null
 compute-result : (o : Arithmetic) (k l : Kind) (n i : Bool) (v w x : Value)
     → fits v (record { kind = k; nullable = n }) ≡ true → fits w (record { kind = l; nullable = i }) ≡ true
     → computes o v w ≡ value x → fits x (record { kind = k; nullable = n || i }) ≡ true
@@ -142,7 +145,7 @@ compute-result o k l n i (text b) w x p q h = fault-value unlike x h
 compute-result o k l n i (ext e b) w x p q h = fault-value unlike x h
 compute-result o k l n i (whole b) w x p q h = fault-value unlike x h
 
--- an operation on numbers
+-- what an operation on numbers gives fits
 pub compute-fits : (o : Arithmetic) (t u s : DType) (v w x : Value) → compute-type t u ≡ Some s → fits v t ≡ true
     → fits w u ≡ true → computes o v w ≡ value x → fits x s ≡ true
 compute-fits o t u s v w x p q h k =
@@ -166,7 +169,7 @@ between-result o t u w x a b y fx fa fb k =
     subst (λ (z : Value). fits z (boolean (t .nullable || (u .nullable || w .nullable))) ≡ true) (value-same j)
     (rw or-regroups at z)
 
--- Between
+-- what a Between gives fits
 pub between-fits : (o : BetweenOptions) (t u w s : DType) (x a b y : Value) → between-type t u w ≡ Some s
     → fits x t ≡ true → fits a u ≡ true → fits b w ≡ true → lies-between o x a b ≡ value y → fits y s ≡ true
 between-fits o t u w s x a b y p fx fa fb k =
@@ -183,7 +186,7 @@ cast-same k n i (text z) q h = h
 cast-same k n i (ext e z) q h = h
 cast-same k n i (whole z) q h = h
 
--- a Cast
+-- what a Cast gives fits
 pub cast-fits : (t u s : DType) (v : Value) → cast-type t u ≡ Some s → fits v u ≡ true → fits v s ≡ true
 cast-fits t u s v p q =
     let (c, e) = cond-some _ _ _ p in
@@ -194,7 +197,7 @@ cast-fits t u s v p q =
     subst (λ (k : Kind). fits v (record { kind = k; nullable = u .nullable }) ≡ true) l q in
     subst (λ (z : DType). fits v z ≡ true) e (cast-same (t .kind) (t .nullable) (u .nullable) v c3 q1)
 
--- as many values as types
+-- values that fit types are as many
 pub fit-nil : (vs : List Value) → all-fit vs [] ≡ true → vs ≡ []
 fit-nil [] p = refl
 fit-nil (v ∷ vs) p = false-true p

@@ -65,6 +65,7 @@ pub lit-eval : (m : Meaning) (r : Env) (t : DType) (v : Value) → eval m r (lit
 unfolding fn-value
 lit-eval m r t v = refl
 
+-- an expression that holds a value has it
 pub literal-eval : (m : Meaning) (r : Env) (e : Expr) (v : Value) → literal-of e ≡ Some v → eval m r e ≡ value v
 literal-eval m r e v p = let (t, i) = literal-inv e v p in ap (eval m r) i ∙ lit-eval m r t v
 

@@ -43,7 +43,7 @@ replace-size g f =
     replace-cases g (λ l k. (size k ≤ suc (size l)) × (depth k ≤ depth l)) (λ a b c e i. (omega arith, omega arith))
     (λ a b c n e i. (omega arith, omega arith)) (λ e k s h. f e k h)
 
--- the sides after a merge, from a left side l and a right side of size s and depth t
+-- the sides after a merge come to no more than a left side l and a right side of size s and depth t
 abbrev Small : Expr → ℕ → ℕ → Merged → Type 0
 Small l s t (merged k None) = (size k ≤ suc (size l + s)) × (depth k ≤ depth l)
 Small l s t (merged k (Some d)) = (size k + size d ≤ size l + s) × ((depth k ≤ depth l) × (depth d ≤ t))
@@ -81,14 +81,14 @@ module _ (m : Meaning) (ss : Schemas) where
       let v = f k d in
       (omega arith, omega arith)
 
-  -- nor do all merges
+  -- all merges give no more than the And
   merging-within : (n : ℕ) (l r : Expr) → Within l r (merging m ss n l r)
   unfolding merging
   merging-within zero l r = (omega arith, omega arith)
   merging-within (suc n) l r = step-within (merging m ss n) (merging-within n) l r (merge m ss l r) refl
 
 mutual
-  -- fusing a whole tree
+  -- fusing a whole tree makes it no larger and no deeper
   find-within : (m : Meaning) (ss : Schemas) (e : Expr)
       → (size (find-between m ss e) ≤ size e) × (depth (find-between m ss e) ≤ depth e)
   find-within m ss (logic And a b) =

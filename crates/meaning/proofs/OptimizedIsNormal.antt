@@ -36,6 +36,7 @@ all-mono : (P Q : Expr → Type 0) → ((e : Expr) → P e → Q e) → (es : Ex
 all-mono P Q f nil h = tt
 all-mono P Q f (cons e es) h = (f e (h .0), all-mono P Q f es (h .1))
 
+-- what follows for each child
 pub children-mono : (P Q : Expr → Type 0) → ((e : Expr) → P e → Q e) → (e : Expr) → Children P e → Children Q e
 children-mono P Q f (logic o a b) h = (f a (h .0), f b (h .1))
 children-mono P Q f (node g es) h = all-mono P Q f es h

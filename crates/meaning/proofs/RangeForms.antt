@@ -34,7 +34,7 @@ fn-root-inv (compute o) es s h = none-some s h
 fn-root-inv (between o) es s h = none-some s h
 fn-root-inv (call c) es s h = none-some s h
 
--- a Root
+-- a Root is the tree of it
 root-inv : (e : Expr) (s : ℕ) → root-of e ≡ Some s → e ≡ node (root s) nil
 root-inv (logic o a b) s h = none-some s h
 root-inv (node f es) s h = fn-root-inv f es s h
@@ -143,7 +143,7 @@ one-column x y h =
     ap (λ (z : List ℕ). record { name = z; schema = x .schema }) (sameBytes-decides (x .name) (y .name) .0 a)
     ∙ ap (λ (z : ℕ). record { name = y .name; schema = z }) (eqb-true (x .schema) (y .schema) b)
 
--- what is answered where it binds binds
+-- an expression answered where it binds is that expression, and binds
 bound-is : (m : Meaning) (ss : Schemas) (e b : Expr) (x : Option DType) → typed m ss e ≡ x
     → if-typed m ss e x ≡ Some b → (e ≡ b) × ((s : DType) × (typed m ss e ≡ Some s))
 bound-is m ss e b None i h = none-some b h

@@ -15,7 +15,7 @@ use Rattle.meaning.proofs.DepthSuffices.{depth-within, depth-down, depth-some}
 use Rattle.meaning.proofs.OptimizedIsNormal.{All-of, Children, rounds-children}
 use Rattle.meaning.proofs.RoundsOfRules.{rounds-over}
 
--- where one of the children is refused
+-- where a list of children is refused, one of them is
 one-refused : (P : Expr → Type 0) (f : Expr → Option Expr) (es : Exprs) → All-of P es → map-all f es ≡ None
     → One-of (λ c. P c × (f c ≡ None)) es
 one-refused P f nil p h = some-none nil h
@@ -26,7 +26,7 @@ one-refused P f (cons e es) p h = elim (and-then-refused (f e) _ h) [
       [ inl o ↦ inr (one-refused P f es (p .1) o) | inr o ↦ some-none _ (o .2) ]
 ]
 
--- where a child of the expression is refused
+-- where the children of an expression are refused, one of them is
 child-refused : (P : Expr → Type 0) (f : Expr → Option Expr) (e : Expr) → Children P e → map-children f e ≡ None
     → One-child (λ c. P c × (f c ≡ None)) e
 child-refused P f (logic o a b) p h = elim (and-then-refused (f a) _ h) [

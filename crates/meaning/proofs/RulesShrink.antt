@@ -99,7 +99,7 @@ nth-size nil i d h = none-some d h
 nth-size (cons e es) zero d h = subst (λ (z : Expr). size z ≤ size e + sizes es) (some-same h) (omega arith)
 nth-size (cons e es) (suc i) d h = omega (arith, nth-size es i d h)
 
--- an operand under a Cast
+-- an operand at the nullability of its node is at most one node larger
 widen-size : (n k : Bool) (e : Expr) (l : Option Value) → size (widen-as n k e l) ≤ suc (size e)
 widen-size n k e (Some v) = omega arith
 widen-size true true e None = omega arith
@@ -111,7 +111,7 @@ drop-size : (c : Bool) (o : Connective) (n k : Bool) (e : Expr)
 drop-size true o n k e = omega arith
 drop-size false o n k e = widen-size n k e (literal-of e)
 
--- And and Or
+-- what simplify answers at And and Or is no larger
 logic-size : (o : Connective) (n ka kb : Bool) (a b d : Expr) (s t : Seen) → simplify-logic o n ka kb a b s t ≡ Some d
     → size d ≤ suc (size a + size b)
 logic-size o n ka kb a b d (sees-truth x) t h =
@@ -134,7 +134,7 @@ null-size : (b : Bool) (d : Expr) (n : ℕ) → cond b (Some (lit (boolean true)
 null-size true d n h = subst (λ (z : Expr). size z ≤ suc n) (some-same h) (omega arith)
 null-size false d n h = none-some d h
 
--- an answer that has each child at most once
+-- an answer that has each child at most once is no larger than the call
 answer-size : (t : DType) (es : Exprs) (d : Expr) (x : Answer) → answer-once x ≡ true → answer-tree t es x ≡ Some d
     → size d ≤ suc (sizes es)
 answer-size t es d nothing p h = none-some d h

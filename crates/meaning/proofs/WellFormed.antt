@@ -40,7 +40,7 @@ formed (fault unlike) = true
 formed (fault (host c)) = true
 formed (fault malformed) = false
 
--- going on from such an outcome to such outcomes
+-- going on from such an outcome to such outcomes gives one
 then-formed : {A B : Type 0} (x : Outcome A) (f : A → Outcome B) → formed x ≡ true
     → ((a : A) → x ≡ value a → formed (f a) ≡ true) → formed (then x f) ≡ true
 then-formed (value a) f p q = q a refl
@@ -67,7 +67,7 @@ computes-formed : (o : Arithmetic) (v w : Value) → formed (computes o v w) ≡
 unfolding compute-signed compute-unsigned
 computes-formed o v w = grind arith
 
--- a reply that names arguments only where they are
+-- a reply that names arguments only where they are gives one
 host-formed : (vs : List Value) (x : Reply) → ((i : ℕ) → x ≡ argument i → i < length vs)
     → formed (reply-value vs x) ≡ true
 host-formed vs (argument i) n = go vs i (n i refl)
@@ -81,7 +81,7 @@ host-formed vs (fails c) n = refl
 
 module _ (m : Meaning) (law : Lawful m) (na : Names-arguments m) (ss : Schemas) (r : Env) (ok : Env-fits ss r)
     (plainly : Columns-plain ss) where
-  -- a node over fitting values
+  -- a node over fitting values gives one
   fn-formed : (f : Fn) (ts : List DType) (vs : List Value) (t : DType) → fn-type m ss f ts ≡ Some t
       → all-fit vs ts ≡ true → ((u : DType) (s : ℕ) → ts ≡ u ∷ [] → u .kind ≡ kind.Row s → u .nullable ≡ false)
       → formed (fn-value m r f vs) ≡ true
@@ -117,7 +117,7 @@ module _ (m : Meaning) (law : Lawful m) (na : Names-arguments m) (ss : Schemas) 
   fn-formed (call c) ts vs t p q o = host-formed vs (m .gives c vs) (λ i e. na c i ts t vs p q e)
 
 mutual
-  -- an expression that binds
+  -- an expression that binds gives one
   eval-formed : (m : Meaning) → Lawful m → Names-arguments m → (ss : Schemas) (r : Env) → Env-fits ss r
       → Columns-plain ss → (e : Expr) (t : DType) → typed m ss e ≡ Some t → formed (eval m r e) ≡ true
   eval-formed m law na ss r ok plainly (logic o a b) t p =
