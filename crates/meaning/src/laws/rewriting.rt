@@ -42,7 +42,7 @@ pub fn refused_only_for_a_101st_round() -> u8
     0
 }
 
-/// Fusing keeps the type and the value.
+/// Fusing keeps the type, and the value wherever either tree has one.
 pub fn fusing_keeps() -> u8
     ensures { λ _. ⌜ Fusing-keeps ⌝ }
 {

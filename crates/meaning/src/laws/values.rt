@@ -48,7 +48,7 @@ pub fn comparisons_from_two() -> u8
     0
 }
 
-/// Two values are equal if they are the same, and never else.
+/// A value other than null compares as equal with itself, and with no other.
 pub fn equal_values_are_one() -> u8
     ensures { λ _. ⌜ Equal-values-are-one ⌝ }
 {
