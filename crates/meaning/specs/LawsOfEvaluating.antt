@@ -3,11 +3,13 @@ use mathlib.Core.Path.{_≡_}
 use mathlib.Core.List.{List}
 use mathlib.Core.Bool.{true}
 use Prim.Native.Nat.{ℕ}
+use lib.ListN.{length}
+use Rattle.std.specs.Orderings.{Decides}
 use Rattle.std.specs.declared.option.Option.the-variants.{Some}
 use Rattle.vocabulary.specs.declared.types.DType.{DType}
 use Rattle.vocabulary.specs.declared.types.Kind.the-variants.{Row}
 use Rattle.schemas.specs.declared.found.Found.{Found}
-use Rattle.schemas.specs.Fields.{found}
+use Rattle.schemas.specs.Fields.{Field, found}
 use Rattle.meaning.specs.Outcomes.{Fault, malformed, value, fault}
 use Rattle.meaning.specs.Lists.{nth}
 use Rattle.meaning.specs.Values.{Value, fits}
@@ -54,6 +56,14 @@ Items-are-of-roots =
 abbrev pub Rows-fit : Type 0
 Rows-fit =
     (ss : Schemas) (s : ℕ) (vs : List Value) → row-fits (columns-of ss s) vs ≡ true → Env-fits ss (row-env ss s vs)
+
+-- a fitting row has one value per column, each fitting its own; and such a row fits
+abbrev pub Fitting-rows-match-columns : Type 0
+Fitting-rows-match-columns =
+    (fs : List Field) (vs : List Value)
+    → Decides (row-fits fs vs)
+    ((length vs ≡ length fs)
+    × ((i : ℕ) (f : Field) (v : Value) → nth fs i ≡ Some f → nth vs i ≡ Some v → fits v (f .dtype) ≡ true))
 
 -- a fitting row gives each GetItem a value, and it fits
 abbrev pub Items-fit : Type 0

@@ -20,6 +20,7 @@ pub mod Ranges
 pub mod Fusing
 pub mod LawsOfValues
 pub mod LawsOfHosts
+pub mod LawsOfComputing
 pub mod LawsOfEvaluating
 pub mod Infallible
 pub mod LawsOfRules
