@@ -1,18 +1,19 @@
 -- Quotients drop the fraction toward zero, zero divisors fault, and other results are exact.
 use mathlib.Core.Path.{_≡_, refl, ap, sym, _∙_}
 use mathlib.Core.Bool.{Bool, true, false, cond}
-use Prim.Native.Nat.{ℕ, zero, suc, _+_, _*_, _/_, _%_, _^_, _<_, _≤_}
+use Prim.Native.Nat.{ℕ, zero, suc, _+_, _-_, _*_, _/_, _^_, _<_, _≤_}
 use native.Mathlib.Nat.{div-mul-le-self, div-lt-iff-lt-mul}
 use native.Mathlib.Omega.{arith}
 use lib.Dec.{eqb, ltb}
-use lib.IntN.{ℤ, pos, negsuc, negℤ}
+use lib.IntN.{ℤ, pos, negsuc, negℤ, _+ℤ_, _-ℤ_, _*ℤ_}
 use Rattle.std.proofs.shelf.Tests.{cond-true, cond-false, eqb-false}
 use Rattle.vocabulary.specs.declared.operators.Arithmetic.the-variants.{Add, Sub, Mul, Div}
 use Rattle.meaning.specs.Outcomes.{Outcome, value, fault, Fault, arithmetic}
 use Rattle.meaning.specs.Values.{Value, signed, unsigned, in-i64}
 use Rattle.meaning.specs.Computing.{computes, compute-signed, compute-unsigned, magnitude, with-sign}
 use Rattle.meaning.specs.Computing.{signed-result, unsigned-result}
-use Rattle.meaning.specs.LawsOfComputing.{Truncated, Quotients-drop-the-fraction, Zero-divisors-fault, Results-are-exact}
+use Rattle.meaning.specs.LawsOfComputing.{Truncated, signs-agree, Exact}
+use Rattle.meaning.specs.LawsOfComputing.{Quotients-drop-the-fraction, Zero-divisors-fault, Results-are-exact}
 
 -- the sign does not change the magnitude
 magnitude-with-sign : (a b : ℤ) (n : ℕ) → magnitude (with-sign a b n) ≡ n
@@ -22,6 +23,15 @@ magnitude-with-sign (pos a) (negsuc b) (suc n) = refl
 magnitude-with-sign (negsuc a) (pos b) zero = refl
 magnitude-with-sign (negsuc a) (pos b) (suc n) = refl
 magnitude-with-sign (negsuc a) (negsuc b) n = refl
+
+-- and has the sign that the quotient has
+sign-of-quotient : (a b : ℤ) (n : ℕ) → signs-agree a b (with-sign a b n) ≡ true
+sign-of-quotient (pos a) (pos b) n = refl
+sign-of-quotient (pos a) (negsuc b) zero = refl
+sign-of-quotient (pos a) (negsuc b) (suc n) = refl
+sign-of-quotient (negsuc a) (pos b) zero = refl
+sign-of-quotient (negsuc a) (pos b) (suc n) = refl
+sign-of-quotient (negsuc a) (negsuc b) n = refl
 
 -- a quotient of magnitudes
 truncated : (a b : ℕ) → 0 < b → Truncated a b (a / b)
@@ -43,7 +53,7 @@ positive : (n : ℕ) → eqb n 0 ≡ false → 0 < n
 positive n h = omega (arith, eqb-false n 0 h)
 
 signed-quotient : (a b q : ℤ) → computes Div (signed a) (signed b) ≡ value (signed q)
-    → Truncated (magnitude a) (magnitude b) (magnitude q)
+    → Truncated (magnitude a) (magnitude b) (magnitude q) × (signs-agree a b q ≡ true)
 unfolding compute-signed
 signed-quotient a b q h =
     let n = magnitude a / magnitude b in
@@ -52,8 +62,10 @@ signed-quotient a b q h =
     kept (in-i64 (with-sign a b n)) (signed (with-sign a b n)) (signed q) arithmetic (p .1)
     in
     let inner : with-sign a b n ≡ q = cc in
-    let size : n ≡ magnitude q = sym (magnitude-with-sign a b n) ∙ ap magnitude inner in
-    rw size at (truncated (magnitude a) (magnitude b) (positive (magnitude b) (p .0)))
+    let size : n ≡ magnitude q = sym (magnitude-with-sign a b n) ∙ ap magnitude inner in (
+      rw size at (truncated (magnitude a) (magnitude b) (positive (magnitude b) (p .0))),
+      rw inner at (sign-of-quotient a b n),
+    )
 
 unsigned-quotient : (a b q : ℕ) → computes Div (unsigned a) (unsigned b) ≡ value (unsigned q) → Truncated a b q
 unfolding compute-unsigned
@@ -72,13 +84,28 @@ pub zero-divisors-fault : Zero-divisors-fault
 unfolding compute-signed compute-unsigned
 zero-divisors-fault = (λ a. refl, λ a. refl)
 
+-- a result that has room, or none
+exact : (room : Bool) (v : Value) → Exact room v (cond room (value v) (fault arithmetic))
+exact room v = (cond-true room (value v) (fault arithmetic), cond-false room (value v) (fault arithmetic))
+
 pub results-are-exact : Results-are-exact
-unfolding compute-signed
-results-are-exact a b = (
-  λ h. cond-true _ _ _ h,
-  λ h. cond-false _ _ _ h,
-  λ h. cond-true _ _ _ h,
-  λ h. cond-false _ _ _ h,
-  λ h. cond-true _ _ _ h,
-  λ h. cond-false _ _ _ h,
-)
+unfolding compute-signed compute-unsigned
+results-are-exact = (signed-ones, unsigned-ones)
+  where
+    signed-ones : (a b : ℤ)
+        → Exact (in-i64 (a +ℤ b)) (signed (a +ℤ b)) (computes Add (signed a) (signed b))
+        × Exact (in-i64 (a -ℤ b)) (signed (a -ℤ b)) (computes Sub (signed a) (signed b))
+        × Exact (in-i64 (a *ℤ b)) (signed (a *ℤ b)) (computes Mul (signed a) (signed b))
+    signed-ones a b = (exact _ _, exact _ _, exact _ _)
+
+    unsigned-ones : (a b : ℕ)
+        → Exact (ltb (a + b) (2 ^ 64)) (unsigned (a + b)) (computes Add (unsigned a) (unsigned b))
+        × Exact (ltb (a * b) (2 ^ 64)) (unsigned (a * b)) (computes Mul (unsigned a) (unsigned b))
+        × (ltb a b ≡ true → computes Sub (unsigned a) (unsigned b) ≡ fault arithmetic)
+        × (ltb a b ≡ false → Exact (ltb (a - b) (2 ^ 64)) (unsigned (a - b)) (computes Sub (unsigned a) (unsigned b)))
+    unsigned-ones a b = (
+      exact _ _,
+      exact _ _,
+      cond-true (ltb a b) (fault arithmetic) (unsigned-result (a - b)),
+      λ h. rw (cond-false (ltb a b) (fault arithmetic) (unsigned-result (a - b)) h) (exact _ _),
+    )
