@@ -8,6 +8,7 @@ use Rattle.std.specs.declared.option.Option.the-variants.{Some}
 use Rattle.std.specs.Options.{mapped}
 use Rattle.vocabulary.specs.declared.types.DType.{DType}
 use Rattle.vocabulary.specs.Types.{plainKind}
+use Rattle.schemas.specs.Declarations.{declared}
 use Rattle.schemas.specs.Fields.{Field, found}
 use Rattle.meaning.specs.Outcomes.{and-then}
 use Rattle.meaning.specs.Lists.{nth}
@@ -23,3 +24,10 @@ column-type ss s n = and-then (nth ss s) (λ fs. mapped (λ c. c .dtype) (found 
 -- no column has a Row for its type, or an Extension above 15
 abbrev pub Columns-plain : Schemas → Type 0
 Columns-plain ss = (s : ℕ) (n : List ℕ) (t : DType) → column-type ss s n ≡ Some t → plainKind (t .kind) ≡ true
+
+-- schemas whose columns were declared one by one have plain columns
+abbrev pub Declared-columns-are-plain : Type 0
+Declared-columns-are-plain =
+    (ss : Schemas)
+    → ((s : ℕ) (fs : List Field) → nth ss s ≡ Some fs → declared fs ≡ true)
+    → Columns-plain ss

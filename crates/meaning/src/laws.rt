@@ -1,0 +1,4 @@
+//! The laws, by topic.
+pub mod evaluation;
+pub mod rewriting;
+pub mod values;
