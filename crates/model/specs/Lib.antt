@@ -1,0 +1,5 @@
+pub mod Stores
+pub mod Shapes
+pub mod Wanted
+pub mod Making
+pub mod Rebuilding

@@ -1,0 +1,1 @@
+//! The arena as a value: stores, the trees that their nodes stand for, making and rebuilding, and their laws.
