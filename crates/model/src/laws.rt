@@ -1,0 +1,33 @@
+//! The laws of making and rebuilding.
+ghost use Rattle.model.specs.LawsOfMaking.{Empty-is-sound, Steps-keep-sound, Steps-only-add, Nodes-stay};
+ghost use Rattle.model.specs.LawsOfMaking.{Refusals-change-nothing, Made-as-asked};
+
+/// The arena as it is opened is sound, and making and rebuilding keep it so.
+pub fn stores_stay_sound() -> u8
+    ensures opened { λ _. ⌜ Empty-is-sound ⌝ }
+    ensures kept { λ _. ⌜ Steps-keep-sound ⌝ }
+{
+    0
+}
+
+/// What is made stays: steps only add, and change no older node's record, number or tree.
+pub fn nodes_stay() -> u8
+    ensures added { λ _. ⌜ Steps-only-add ⌝ }
+    ensures stay { λ _. ⌜ Nodes-stay ⌝ }
+{
+    0
+}
+
+/// A refusal leaves the store as it was.
+pub fn refusals_change_nothing() -> u8
+    ensures { λ _. ⌜ Refusals-change-nothing ⌝ }
+{
+    0
+}
+
+/// What is made has the next number, and its tree is the function asked for over the children's trees.
+pub fn made_as_asked() -> u8
+    ensures { λ _. ⌜ Made-as-asked ⌝ }
+{
+    0
+}
