@@ -6,3 +6,4 @@ pub mod Growing
 pub mod Stepping
 pub mod Adding
 pub mod Granting
+pub mod Regranting

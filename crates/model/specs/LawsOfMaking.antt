@@ -13,7 +13,7 @@ use Rattle.meaning.specs.Columns.{Schemas}
 use Rattle.meaning.specs.Hosts.{Meaning}
 use Rattle.meaning.specs.Trees.{Expr, logic, node, Exprs, nil, cons}
 use Rattle.model.specs.Stores.{Store, empty, node-at}
-use Rattle.model.specs.Shapes.{tree, trees}
+use Rattle.model.specs.Shapes.{shape, shape-tree, tree, trees}
 use Rattle.model.specs.Wanted.{New, new-bytes, new-tree}
 use Rattle.model.specs.Making.{make}
 use Rattle.model.specs.Rebuilding.{with-children}
@@ -51,6 +51,13 @@ Nodes-stay =
     → (cs : List Step) → All-eight cs
     → (k : ℕ) (x : Node) → node-at s k ≡ Some x
     → (node-at (after m cs s) k ≡ Some x) × (tree (after m cs s) k ≡ tree s k)
+
+-- a node's tree is its shape's, over the trees of its children
+abbrev pub Trees-by-shapes : Type 0
+Trees-by-shapes =
+    (m : Meaning) (s : Store) → Sound m s
+    → (k : ℕ) (x : Node) → node-at s k ≡ Some x
+    → tree s k ≡ shape-tree (tree s) (shape (s .text) x)
 
 -- a refusal leaves the store as it was
 abbrev pub Refusals-change-nothing : Type 0

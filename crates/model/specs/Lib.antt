@@ -6,3 +6,4 @@ pub mod Rebuilding
 pub mod Soundness
 pub mod Steps
 pub mod LawsOfMaking
+pub mod LawsOfRefusing

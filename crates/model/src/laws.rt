@@ -1,6 +1,7 @@
 //! The laws of making and rebuilding.
 ghost use Rattle.model.specs.LawsOfMaking.{Empty-is-sound, Steps-keep-sound, Steps-only-add, Nodes-stay};
-ghost use Rattle.model.specs.LawsOfMaking.{Refusals-change-nothing, Made-as-asked};
+ghost use Rattle.model.specs.LawsOfMaking.{Trees-by-shapes, Refusals-change-nothing};
+ghost use Rattle.model.specs.LawsOfMaking.{Made-as-asked, Rebuilt-over-others};
 
 /// The arena as it is opened is sound, and making and rebuilding keep it so.
 pub fn stores_stay_sound() -> u8
@@ -28,6 +29,20 @@ pub fn refusals_change_nothing() -> u8
 /// What is made has the next number, and its tree is the function asked for over the children's trees.
 pub fn made_as_asked() -> u8
     ensures { λ _. ⌜ Made-as-asked ⌝ }
+{
+    0
+}
+
+/// What is rebuilt is the old function over the other children's trees.
+pub fn rebuilt_over_others() -> u8
+    ensures { λ _. ⌜ Rebuilt-over-others ⌝ }
+{
+    0
+}
+
+/// A node's tree is its function over the trees of its children.
+pub fn trees_by_shapes() -> u8
+    ensures { λ _. ⌜ Trees-by-shapes ⌝ }
 {
     0
 }
