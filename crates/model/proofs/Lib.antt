@@ -7,3 +7,5 @@ pub mod Stepping
 pub mod Adding
 pub mod Granting
 pub mod Regranting
+pub mod Refusing
+pub mod Causes

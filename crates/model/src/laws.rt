@@ -2,6 +2,7 @@
 ghost use Rattle.model.specs.LawsOfMaking.{Empty-is-sound, Steps-keep-sound, Steps-only-add, Nodes-stay};
 ghost use Rattle.model.specs.LawsOfMaking.{Trees-by-shapes, Refusals-change-nothing};
 ghost use Rattle.model.specs.LawsOfMaking.{Made-as-asked, Rebuilt-over-others};
+ghost use Rattle.model.specs.LawsOfRefusing.{Making-refuses-exactly, Rebuilding-refuses-exactly};
 
 /// The arena as it is opened is sound, and making and rebuilding keep it so.
 pub fn stores_stay_sound() -> u8
@@ -43,6 +44,14 @@ pub fn rebuilt_over_others() -> u8
 /// A node's tree is its function over the trees of its children.
 pub fn trees_by_shapes() -> u8
     ensures { λ _. ⌜ Trees-by-shapes ⌝ }
+{
+    0
+}
+
+/// Making and rebuilding are refused exactly for the causes of the refusals, in the order of their numbers.
+pub fn refused_for_their_causes() -> u8
+    ensures made { λ _. ⌜ Making-refuses-exactly ⌝ }
+    ensures rebuilt { λ _. ⌜ Rebuilding-refuses-exactly ⌝ }
 {
     0
 }
