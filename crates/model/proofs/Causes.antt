@@ -1,8 +1,8 @@
 -- Making and rebuilding are refused exactly for their causes.
 use mathlib.Core.List.{List, []}
-use mathlib.Core.Logic.{_⊎_, inl, inr}
+use mathlib.Core.Logic.{inl, inr}
 use mathlib.Core.Path.{_≡_, refl, ap, sym, subst, _∙_}
-use Prim.Native.Nat.{ℕ, zero, suc, _<_, _≤_}
+use Prim.Native.Nat.{ℕ, zero, suc}
 use native.Mathlib.Omega.{arith}
 use lib.Dec.{leb}
 use lib.ListN.{length, take}
@@ -14,16 +14,13 @@ use Rattle.std.specs.declared.result.Result.the-variants.{Ok, Err}
 use Rattle.vocabulary.specs.declared.nodes.Function.{Function}
 use Rattle.vocabulary.specs.declared.nodes.Function.the-variants.{Root, Literal, GetItem, Cast, Binary, Between, Host}
 use Rattle.vocabulary.specs.declared.nodes.Node.{Node}
-use Rattle.vocabulary.specs.declared.refusals.MemoryRefusal.the-variants.{NoSuchNode, NoSuchSchema}
 use Rattle.vocabulary.specs.declared.refusals.Refusal.{Refusal}
-use Rattle.vocabulary.specs.declared.refusals.Refusal.the-variants.{Memory}
 use Rattle.meaning.specs.Hosts.{Meaning}
-use Rattle.meaning.specs.Trees.{Expr}
 use Rattle.meaning.proofs.CaseSplits.{none-some}
 use Rattle.model.specs.Stores.{Store, node-at}
 use Rattle.model.specs.Shapes.{tree, trees}
 use Rattle.model.specs.Wanted.{New, root, literal, get-item, cast, binary, between, host, new-bytes, new-tree}
-use Rattle.model.specs.Making.{build, entered, schema-first, new-plan, make}
+use Rattle.model.specs.Making.{build, entered, schema-first, new-plan}
 use Rattle.model.specs.Rebuilding.{old-plan, itself-or, rebuilt, with-children}
 use Rattle.model.specs.Soundness.{Sound}
 use Rattle.model.specs.LawsOfMaking.{with-operands}
@@ -33,7 +30,8 @@ use Rattle.model.proofs.Numbers.{node-there, node-past}
 use Rattle.model.proofs.Children.{err-ok}
 use Rattle.model.proofs.Granting.{asked-tree}
 use Rattle.model.proofs.Regranting.{other-tree}
-use Rattle.model.proofs.Refusing.{err-same, either, has-cause, is-refused}
+use Rattle.model.proofs.Missing.{err-same, either}
+use Rattle.model.proofs.Refusing.{has-cause, is-refused}
 
 -- the answer is refused where the record is
 entered-refused : (bs : List ℕ) (s : Store) (a : Result Node Refusal) (r : Refusal) → entered bs s a .0 ≡ Err r

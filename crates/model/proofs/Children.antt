@@ -1,31 +1,27 @@
 -- The records of children that are there, and what they say of the children's trees.
-use mathlib.Core.Bool.{Bool, true, false, _&&_}
-use mathlib.Core.List.{List, [], _∷_, _++_}
-use mathlib.Core.Logic.{_⊎_, inl, inr}
+use mathlib.Core.Bool.{true}
+use mathlib.Core.List.{List, [], _∷_}
 use mathlib.Core.Path.{_≡_, refl, ap, sym, subst, _∙_}
-use Prim.Native.Nat.{ℕ, suc, _+_, _<_, _≤_, min, max}
+use Prim.Native.Nat.{ℕ, suc, _+_, max}
 use native.Mathlib.Omega.{arith}
-use lib.Dec.{eqb, leb}
-use lib.ListN.{length, take, getD}
-use Rattle.std.proofs.shelf.Tests.{eqb-true, leb-true, and-parts}
+use lib.ListN.{length}
+use Rattle.std.proofs.shelf.Tests.{eqb-true}
 use Rattle.std.specs.declared.option.Option.{Option}
 use Rattle.std.specs.declared.option.Option.the-variants.{Some, None}
 use Rattle.std.specs.declared.result.Result.{Result}
 use Rattle.std.specs.declared.result.Result.the-variants.{Ok, Err}
 use Rattle.vocabulary.specs.declared.nodes.Node.{Node}
 use Rattle.meaning.specs.Hosts.{Meaning}
-use Rattle.meaning.specs.Trees.{Fn, root, literal, get-item, cast, compare, compute, between, call}
 use Rattle.meaning.specs.Trees.{logic, depth, depths, size, sizes}
 use Rattle.meaning.specs.Lists.{of-two}
 use Rattle.meaning.specs.Typing.{typed, typed-all, logic-type}
 use Rattle.vocabulary.specs.declared.operators.Connective.{Connective}
-use Rattle.meaning.proofs.CaseSplits.{none-some, some-none}
 use Rattle.model.specs.Stores.{Store, node-at}
-use Rattle.model.specs.Shapes.{Head, join, over, head, kids, shape, shaped, shape-tree, tree, trees}
-use Rattle.model.specs.Making.{before, with-record, looked-up, fn-counts, head-counts, head-type}
+use Rattle.model.specs.Shapes.{Head, join, over, shaped, shape-tree, tree, trees}
+use Rattle.model.specs.Making.{with-record, looked-up, head-counts, head-type}
 use Rattle.model.specs.Making.{types-of, deepest, total-size}
-use Rattle.model.specs.Soundness.{Below, Sound-node, Sound}
-use Rattle.model.proofs.Numbers.{node-below, node-there, shown, shape-kids}
+use Rattle.model.specs.Soundness.{Below, Sound}
+use Rattle.model.proofs.Numbers.{node-below, node-there}
 
 pub err-ok {ℓ} : {A E : Type 0} {B : Type ℓ} (e : E) (a : A) → _≡_ {A = Result A E} (Err e) (Ok a) → B
 err-ok e a p = let z : _≡_ {A = ℕ} 0 1 = cc in absurd (omega arith)

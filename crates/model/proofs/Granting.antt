@@ -1,15 +1,11 @@
 -- What is granted is the tree asked for, under the next number.
-use mathlib.Core.Bool.{Bool, true, false}
-use mathlib.Core.List.{List, [], _∷_, _++_, append-nil}
-use mathlib.Core.Logic.{_⊎_, inl, inr}
-use mathlib.Core.Path.{_≡_, refl, ap, sym, subst, _∙_}
-use Prim.Native.Nat.{ℕ, zero, suc, min, _<_, _≤_}
+use mathlib.Core.Bool.{true}
+use mathlib.Core.List.{List, [], _∷_}
+use mathlib.Core.Path.{_≡_, refl, ap, sym, _∙_}
+use Prim.Native.Nat.{ℕ, min, _≤_}
 use native.Mathlib.Omega.{arith}
-use lib.Dec.{eqb}
 use lib.ListN.{length, take, getD}
 use Rattle.std.proofs.shelf.Tests.{eqb-true}
-use Rattle.std.specs.declared.option.Option.{Option}
-use Rattle.std.specs.declared.option.Option.the-variants.{Some, None}
 use Rattle.std.specs.declared.result.Result.{Result}
 use Rattle.std.specs.declared.result.Result.the-variants.{Ok, Err}
 use Rattle.vocabulary.specs.declared.nodes.Node.{Node}
@@ -19,14 +15,13 @@ use Rattle.vocabulary.specs.declared.refusals.Refusal.{Refusal}
 use Rattle.vocabulary.specs.Operators.{familyOf}
 use Rattle.meaning.specs.Hosts.{Meaning}
 use Rattle.meaning.specs.Trees.{Fn, Expr, node, of-family}
-use Rattle.model.specs.Stores.{Store, node-at, grown}
-use Rattle.model.specs.Shapes.{Head, join, over, family-head, shaped, trees-by, shape-tree, tree}
+use Rattle.model.specs.Stores.{grown}
+use Rattle.model.specs.Shapes.{join, over, family-head, shaped, trees-by, shape-tree, tree}
 use Rattle.model.specs.Wanted.{New, root, literal, get-item, cast, binary, between, host, new-bytes, new-head, new-tree}
-use Rattle.model.specs.Making.{named, fn-counts, head-counts, build, entered, schema-first, new-plan, make}
-use Rattle.model.specs.Soundness.{Sound}
+use Rattle.model.specs.Making.{named, head-counts, build, entered, schema-first, new-plan}
 use Rattle.model.specs.LawsOfMaking.{Made, Made-as-asked}
 use Rattle.model.proofs.Children.{err-ok, ok-same}
-use Rattle.model.proofs.Plans.{Built, built, new-honest}
+use Rattle.model.proofs.Plans.{built, new-honest}
 use Rattle.model.proofs.Growing.{head-few, planned-tree}
 use Rattle.model.proofs.Stepping.{schema-passed}
 

@@ -1,28 +1,26 @@
 -- A store that grows by a granted plan stays sound, and its older nodes stay.
-use mathlib.Core.Bool.{Bool, true, false, cond, _&&_}
+use mathlib.Core.Bool.{Bool, true, false}
 use mathlib.Core.List.{List, [], _∷_, _++_}
 use mathlib.Core.Path.{_≡_, refl, ap, sym, subst, _∙_}
-use Prim.Native.Nat.{ℕ, suc, _+_, _-_, _<_, _≤_, min}
+use Prim.Native.Nat.{ℕ, suc, _<_, _≤_, min}
 use native.Mathlib.Omega.{arith}
 use lib.Dec.{eqb, leb}
-use lib.ListN.{length, take, drop, replicate, length-append, length-take, length-drop, length-replicate}
+use lib.ListN.{length, take, drop, replicate, length-append, length-take, length-drop}
 use Rattle.std.proofs.shelf.Lists.{take-at, length-take-le}
 use Rattle.std.proofs.shelf.Tests.{eqb-true, eqb-false, leb-true, and-parts}
-use Rattle.std.specs.declared.option.Option.{Option}
-use Rattle.std.specs.declared.option.Option.the-variants.{Some, None}
+use Rattle.std.specs.declared.option.Option.the-variants.{Some}
 use Rattle.vocabulary.specs.declared.nodes.Node.{Node}
-use Rattle.vocabulary.specs.declared.types.DType.{DType}
 use Rattle.vocabulary.specs.Nodes.{padded, textOf}
 use Rattle.meaning.specs.Hosts.{Meaning}
 use Rattle.meaning.specs.Trees.{Fn, root, literal, get-item, cast, compare, compute, between, call}
-use Rattle.meaning.specs.Trees.{Expr, depth, size}
+use Rattle.meaning.specs.Trees.{depth, size}
 use Rattle.meaning.specs.Typing.{typed}
 use Rattle.meaning.proofs.CaseSplits.{some-same}
 use Rattle.model.specs.Stores.{Store, node-among, node-at, grown}
 use Rattle.model.specs.Shapes.{Head, join, over, head, kids, shape, shaped, shape-tree, tree-among, tree}
-use Rattle.model.specs.Making.{Plan, named, fn-counts, head-counts, deepest, total-size, new-record}
+use Rattle.model.specs.Making.{Plan, named, fn-counts, head-counts, deepest, total-size}
 use Rattle.model.specs.Soundness.{Below, Ends-within, Sound-node, Sound}
-use Rattle.model.proofs.Numbers.{below-mono, node-older, node-newest, node-below, tree-older, tree-newest, shapes-same}
+use Rattle.model.proofs.Numbers.{node-older, node-newest, node-below, tree-older, tree-newest, shapes-same}
 use Rattle.model.proofs.Texts.{head-kept, ends-more, All-within, tree-kept}
 use Rattle.model.proofs.Children.{found-below, type-is, depth-is, size-is}
 use Rattle.model.proofs.Plans.{Built, Honest}

@@ -7,5 +7,7 @@ pub mod Stepping
 pub mod Adding
 pub mod Granting
 pub mod Regranting
+pub mod Missing
 pub mod Refusing
 pub mod Causes
+pub mod Forward

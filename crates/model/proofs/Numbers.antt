@@ -1,16 +1,15 @@
 -- Records and trees by their numbers: one more node changes none of the older ones.
 use mathlib.Core.Bool.{Bool, true, false, cond}
 use mathlib.Core.List.{List, [], _∷_}
-use mathlib.Core.Path.{_≡_, refl, ap, sym, subst, _∙_}
+use mathlib.Core.Path.{_≡_, refl, ap, sym, _∙_}
 use Prim.Native.Nat.{ℕ, suc, _<_, _≤_}
 use native.Mathlib.Omega.{arith}
 use lib.Dec.{eqb}
 use lib.ListN.{length}
 use Rattle.std.proofs.shelf.Tests.{eqb-true, eqb-false, eq-eqb, ne-eqb}
-use Rattle.std.specs.declared.option.Option.{Option}
 use Rattle.std.specs.declared.option.Option.the-variants.{Some, None}
 use Rattle.vocabulary.specs.declared.nodes.Node.{Node}
-use Rattle.meaning.specs.Trees.{Expr, node, Exprs}
+use Rattle.meaning.specs.Trees.{Expr, node}
 use Rattle.meaning.proofs.CaseSplits.{none-some, some-same}
 use Rattle.model.specs.Stores.{node-among}
 use Rattle.model.specs.Shapes.{Shape, both, on, shape, trees-by, shape-tree, tree-among}

@@ -1,8 +1,8 @@
 -- What a plan that is granted has passed, and that plans say what they record.
 use mathlib.Core.Bool.{Bool, true, false, cond, _&&_}
 use mathlib.Core.List.{List, [], _∷_, _++_, append-nil}
-use mathlib.Core.Path.{_≡_, refl, ap, sym, subst, _∙_}
-use Prim.Native.Nat.{ℕ, suc, _+_, _<_, _≤_, min}
+use mathlib.Core.Path.{_≡_, refl, ap, sym, subst}
+use Prim.Native.Nat.{ℕ, suc, _+_, _<_, _≤_}
 use native.Mathlib.Omega.{arith}
 use lib.Dec.{leb, ltb}
 use lib.ListN.{length, length-append}
@@ -30,11 +30,11 @@ use Rattle.meaning.specs.Values.{Value, null, bool, signed, unsigned, text, ext
 use Rattle.meaning.specs.Comparing.{bytes-of}
 use Rattle.meaning.proofs.CaseSplits.{none-some, some-same, cond-some, false-true}
 use Rattle.model.specs.Stores.{Store}
-use Rattle.model.specs.Shapes.{Head, join, over, head, head-of}
+use Rattle.model.specs.Shapes.{over, head, head-of}
 use Rattle.model.specs.Wanted.{New, root, literal, get-item, cast, binary, between, host}
-use Rattle.model.specs.Wanted.{behind, placed-behind, new-function, new-bytes, new-head}
+use Rattle.model.specs.Wanted.{placed-behind}
 use Rattle.model.specs.Making.{Plan, named, looked-up, check, head-known, head-counts, head-type, types-of}
-use Rattle.model.specs.Making.{deepest, total-size, new-record, sized, bound, over-children, build, new-plan}
+use Rattle.model.specs.Making.{deepest, total-size, new-record, bound, over-children, build, new-plan}
 use Rattle.model.specs.Rebuilding.{old-plan}
 use Rattle.model.specs.Soundness.{Ends-within, Sound-node}
 use Rattle.model.proofs.Children.{err-ok, ok-same}

@@ -1,88 +1,34 @@
 -- A plan is refused exactly for its causes.
-use mathlib.Core.Bool.{Bool, true, false, cond}
-use mathlib.Core.List.{List, [], _∷_, _++_}
-use mathlib.Core.Logic.{_⊎_, inl, inr}
+use mathlib.Core.Bool.{true, false}
+use mathlib.Core.List.{List}
+use mathlib.Core.Logic.{inl, inr}
 use mathlib.Core.Path.{_≡_, refl, ap, sym, subst, _∙_}
-use Prim.Native.Nat.{ℕ, suc, _+_, _<_, _≤_}
+use Prim.Native.Nat.{ℕ, suc, _+_, _≤_}
 use native.Mathlib.Omega.{arith}
 use lib.Dec.{leb, ltb}
 use lib.ListN.{length}
 use Rattle.std.proofs.shelf.Tests.{leb-true, leb-false, ltb-true, ltb-false, le-leb, lt-leb, lt-ltb, le-ltb}
-use Rattle.std.proofs.shelf.Tests.{cond-true, cond-false, cases-lt}
-use Rattle.meaning.proofs.CaseSplits.{none-some}
+use Rattle.std.proofs.shelf.Tests.{cond-true, cond-false}
 use Rattle.std.specs.declared.option.Option.{Option}
 use Rattle.std.specs.declared.option.Option.the-variants.{Some, None}
 use Rattle.std.specs.declared.result.Result.{Result}
 use Rattle.std.specs.declared.result.Result.the-variants.{Ok, Err}
 use Rattle.vocabulary.specs.declared.nodes.Node.{Node}
-use Rattle.vocabulary.specs.declared.refusals.MemoryRefusal.the-variants.{NoSuchNode}
 use Rattle.vocabulary.specs.declared.refusals.Refusal.{Refusal}
-use Rattle.vocabulary.specs.declared.refusals.Refusal.the-variants.{Memory, Binding}
 use Rattle.vocabulary.specs.declared.types.DType.{DType}
 use Rattle.meaning.specs.Hosts.{Meaning}
 use Rattle.meaning.specs.Trees.{Expr, depth, size}
 use Rattle.meaning.specs.Typing.{typed}
-use Rattle.model.specs.Stores.{Store, node-at}
+use Rattle.model.specs.Stores.{Store}
 use Rattle.model.specs.Shapes.{shaped, shape-tree, tree}
-use Rattle.model.specs.Making.{Plan, named, before, with-record, looked-up, check, head-known, head-counts, head-type}
-use Rattle.model.specs.Making.{types-of, deepest, total-size, new-record, sized, bound, over-children, build}
-use Rattle.model.specs.Soundness.{Below, Sound}
-use Rattle.model.specs.LawsOfRefusing.{First-missing, Counted, Fine, Refused, no-node, no-code, wrong-count}
+use Rattle.model.specs.Making.{Plan, named, looked-up, head-known, head-counts, head-type}
+use Rattle.model.specs.Making.{types-of, deepest, total-size, sized, bound, over-children, build}
+use Rattle.model.specs.Soundness.{Sound}
+use Rattle.model.specs.LawsOfRefusing.{Counted, Fine, Refused, no-node, no-code, wrong-count}
 use Rattle.model.specs.LawsOfRefusing.{unbound, too-deep, too-large, records-full, text-full}
-use Rattle.model.proofs.Numbers.{node-below, node-there, node-past}
-use Rattle.model.proofs.Children.{err-ok, ok-same, found-below, below-found, type-is, depth-is, size-is}
+use Rattle.model.proofs.Children.{err-ok, found-below, below-found, type-is, depth-is, size-is}
 use Rattle.model.proofs.Growing.{head-few, named-length}
-
-pub err-same : {A E : Type 0} {a b : E} → _≡_ {A = Result A E} (Err a) (Err b) → a ≡ b
-err-same p = cc
-
--- a test that refused, or was passed
-pub either : (b : Bool) (r : Refusal) (next : Result Node Refusal) (q : Refusal) → check b r next ≡ Err q
-    → ((b ≡ false) × (r ≡ q)) ⊎ ((b ≡ true) × (next ≡ Err q))
-either true r next q e = inr (refl, e)
-either false r next q e = inl (refl, err-same e)
-
--- numbers up to the first that no node has
-missing-first : (s : Store) (ks : List ℕ) (k : ℕ) → looked-up s ks ≡ Err k → First-missing s ks k
-missing-first s [] k e = err-ok k [] (sym e)
-missing-first s (j ∷ ks) k e = go (missing-first s ks k) (node-at s j) (looked-up s ks) refl refl e
-  where
-    more : (x : Node) → node-at s j ≡ Some x → First-missing s ks k → First-missing s (j ∷ ks) k
-    more x a f = record {
-      front = j ∷ f .front;
-      back = f .back;
-      split = ap (λ (z : List ℕ). j ∷ z) (f .split);
-      there = (node-below (s .nodes) j x a, f .there);
-      missing = f .missing;
-    }
-
-    past : node-at s j ≡ None → length (s .nodes) ≤ j
-    past a = elim (cases-lt j (length (s .nodes))) [
-      | inl l ↦ let (x, b) = node-there (s .nodes) j l in none-some x (sym a ∙ b)
-      | inr l ↦ l
-    ]
-
-    go : (looked-up s ks ≡ Err k → First-missing s ks k) → (o : Option Node) (r : Result (List Node) ℕ)
-        → node-at s j ≡ o → looked-up s ks ≡ r → with-record j o r ≡ Err k → First-missing s (j ∷ ks) k
-    go f None r a b h =
-        let i : j ≡ k = err-same h in
-        record {
-          front = [];
-          back = ks;
-          split = ap (λ (z : ℕ). z ∷ ks) i;
-          there = tt;
-          missing = subst (λ (z : ℕ). length (s .nodes) ≤ z) i (past a);
-        }
-    go f (Some x) (Ok xs) a b h = err-ok k (x ∷ xs) (sym h)
-    go f (Some x) (Err i) a b h = more x a (f (b ∙ ap Err (err-same h)))
-
-first-missing : (s : Store) (front : List ℕ) (k : ℕ) (back : List ℕ) → Below (length (s .nodes)) front
-    → length (s .nodes) ≤ k → looked-up s (front ++ (k ∷ back)) ≡ Err k
-first-missing s [] k back w h = ap (λ (o : Option Node). with-record k o (looked-up s back)) (node-past (s .nodes) k h)
-first-missing s (j ∷ front) k back w h =
-    let (x, a) = node-there (s .nodes) j (w .0) in
-    ap (λ (o : Option Node). with-record j o (looked-up s (front ++ (k ∷ back)))) a
-    ∙ ap (before x) (first-missing s front k back (w .1) h)
+use Rattle.model.proofs.Missing.{err-same, either, missing-first, first-missing}
 
 module _ (m : Meaning) (s : Store) (sound : Sound m s) (p : Plan) (eight : length (p .children) ≡ 8) (e : Expr)
     (same : head-counts m (p .head) (p .count) ≡ true

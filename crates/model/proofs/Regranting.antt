@@ -1,9 +1,9 @@
 -- What is rebuilt is the old tree over the other children.
 use mathlib.Core.Bool.{true}
-use mathlib.Core.List.{List, [], _∷_, append-nil}
-use mathlib.Core.Logic.{_⊎_, inl, inr}
+use mathlib.Core.List.{List, [], append-nil}
+use mathlib.Core.Logic.{inl, inr}
 use mathlib.Core.Path.{_≡_, refl, ap, sym, subst, _∙_}
-use Prim.Native.Nat.{ℕ, zero, suc, min, _<_, _≤_}
+use Prim.Native.Nat.{ℕ, zero, suc}
 use native.Mathlib.Omega.{arith}
 use lib.ListN.{length, take, length-take}
 use Rattle.std.proofs.shelf.Tests.{eqb-true}
@@ -19,14 +19,14 @@ use Rattle.vocabulary.specs.Types.{carried}
 use Rattle.meaning.specs.Hosts.{Meaning}
 use Rattle.meaning.specs.Trees.{Fn, Expr, node, nil}
 use Rattle.model.specs.Stores.{Store, node-at, grown}
-use Rattle.model.specs.Shapes.{Head, join, over, head, head-of, kids, shape, shaped, trees-by, shape-tree, tree, trees}
+use Rattle.model.specs.Shapes.{Head, join, over, head, head-of, kids, shaped, trees-by, shape-tree, tree, trees}
 use Rattle.model.specs.Making.{named, head-counts, build, entered}
-use Rattle.model.specs.Rebuilding.{old-plan, itself-or, rebuilt, with-children}
-use Rattle.model.specs.Soundness.{Below, Sound-node, Sound}
+use Rattle.model.specs.Rebuilding.{old-plan, itself-or, rebuilt}
+use Rattle.model.specs.Soundness.{Below, Sound}
 use Rattle.model.specs.LawsOfMaking.{Trees-by-shapes, with-operands, Rebuilt, Rebuilt-over-others}
 use Rattle.model.proofs.Numbers.{shown, shape-kids}
 use Rattle.model.proofs.Children.{err-ok, ok-same, pair}
-use Rattle.model.proofs.Plans.{Built, built, old-honest}
+use Rattle.model.proofs.Plans.{built, old-honest}
 use Rattle.model.proofs.Growing.{head-few, named-length, planned-tree}
 use Rattle.model.proofs.Granting.{named-all}
 

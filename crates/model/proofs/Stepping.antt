@@ -1,8 +1,7 @@
 -- Steps keep a store sound, and leave its older nodes as they were.
-use mathlib.Core.Bool.{Bool, true, false}
 use mathlib.Core.List.{List, [], _∷_}
-use mathlib.Core.Path.{_≡_, refl, ap, sym, subst, _∙_}
-use Prim.Native.Nat.{ℕ, zero, suc, _<_, _≤_}
+use mathlib.Core.Path.{_≡_, refl, sym, subst, _∙_}
+use Prim.Native.Nat.{ℕ, zero, suc}
 use native.Mathlib.Omega.{arith}
 use lib.ListN.{length}
 use Rattle.std.specs.declared.option.Option.{Option}
@@ -15,16 +14,15 @@ use Rattle.vocabulary.specs.declared.nodes.Node.{Node}
 use Rattle.vocabulary.specs.declared.refusals.Refusal.{Refusal}
 use Rattle.meaning.specs.Hosts.{Meaning}
 use Rattle.meaning.proofs.CaseSplits.{none-some}
-use Rattle.model.specs.Stores.{Store, empty, node-among, node-at, grown}
+use Rattle.model.specs.Stores.{Store, node-among, node-at, grown}
 use Rattle.model.specs.Shapes.{tree}
 use Rattle.model.specs.Wanted.{New, root, literal, get-item, cast, binary, between, host, new-bytes}
 use Rattle.model.specs.Making.{Plan, build, entered, schema-first, new-plan, make}
-use Rattle.model.specs.Rebuilding.{old-plan, itself-or, rebuilt, with-children}
+use Rattle.model.specs.Rebuilding.{old-plan, itself-or, rebuilt}
 use Rattle.model.specs.Soundness.{Sound}
-use Rattle.model.specs.Steps.{Step, makes, rebuilds, perform, after, numbers, All-eight}
+use Rattle.model.specs.Steps.{Step, makes, rebuilds, perform, numbers}
 use Rattle.model.specs.LawsOfMaking.{Empty-is-sound, Steps-keep-sound, Nodes-stay}
 use Rattle.model.proofs.Numbers.{node-below}
-use Rattle.model.proofs.Children.{err-ok}
 use Rattle.model.proofs.Plans.{checked, Built, built, Honest, new-honest, old-honest}
 use Rattle.model.proofs.Growing.{record-stays, tree-stays, grown-sound}
 

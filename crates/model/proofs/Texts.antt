@@ -1,8 +1,8 @@
 -- Parts of a text: bytes behind it change none, and what is appended is read again.
 use mathlib.Core.Bool.{cond}
 use mathlib.Core.List.{List, [], _∷_, _++_}
-use mathlib.Core.Path.{_≡_, refl, ap, sym, subst, _∙_}
-use Prim.Native.Nat.{ℕ, _+_, _-_, _<_, _≤_}
+use mathlib.Core.Path.{_≡_, refl, ap, _∙_}
+use Prim.Native.Nat.{ℕ, _+_, _≤_}
 use native.Mathlib.Omega.{arith}
 use lib.Dec.{eqb}
 use lib.ListN.{length, take, drop, length-append, length-drop}
@@ -14,7 +14,6 @@ use Rattle.vocabulary.specs.declared.nodes.Function.the-variants.{Root, Literal
 use Rattle.vocabulary.specs.declared.nodes.Node.{Node}
 use Rattle.vocabulary.specs.declared.types.DType.{DType}
 use Rattle.vocabulary.specs.declared.values.Span.{Span}
-use Rattle.vocabulary.specs.declared.values.Text.{Text}
 use Rattle.vocabulary.specs.declared.values.Text.the-variants.{Arena, Row}
 use Rattle.vocabulary.specs.declared.values.Value.{Value as Placed}
 use Rattle.vocabulary.specs.declared.values.Value.the-variants as placed

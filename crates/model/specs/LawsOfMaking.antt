@@ -1,5 +1,5 @@
 -- The laws of making and rebuilding.
-use mathlib.Core.List.{List, [], _∷_, _++_}
+use mathlib.Core.List.{List, _++_, reverse}
 use mathlib.Core.Logic.{_⊎_}
 use mathlib.Core.Path.{_≡_}
 use Prim.Native.Nat.{ℕ, suc}
@@ -11,6 +11,7 @@ use Rattle.vocabulary.specs.declared.nodes.Node.{Node}
 use Rattle.vocabulary.specs.declared.refusals.Refusal.{Refusal}
 use Rattle.meaning.specs.Columns.{Schemas}
 use Rattle.meaning.specs.Hosts.{Meaning}
+use Rattle.meaning.specs.Lists.{nth}
 use Rattle.meaning.specs.Trees.{Expr, logic, node, Exprs, nil, cons}
 use Rattle.model.specs.Stores.{Store, empty, node-at}
 use Rattle.model.specs.Shapes.{shape, shape-tree, tree, trees}
@@ -18,7 +19,11 @@ use Rattle.model.specs.Wanted.{New, new-bytes, new-tree}
 use Rattle.model.specs.Making.{make}
 use Rattle.model.specs.Rebuilding.{with-children}
 use Rattle.model.specs.Soundness.{Sound}
-use Rattle.model.specs.Steps.{Step, perform, after, numbers, All-eight}
+use Rattle.model.specs.Steps.{Step, perform, after, All-eight}
+
+-- the record of a number lies at that place where the nodes lie oldest first
+abbrev pub Records-lie-forward : Type 0
+Records-lie-forward = (s : Store) (n : ℕ) → node-at s n ≡ nth (reverse (s .nodes)) n
 
 -- the arena as it is opened is sound
 abbrev pub Empty-is-sound : Type 0

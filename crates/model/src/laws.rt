@@ -1,6 +1,6 @@
 //! The laws of making and rebuilding.
 ghost use Rattle.model.specs.LawsOfMaking.{Empty-is-sound, Steps-keep-sound, Steps-only-add, Nodes-stay};
-ghost use Rattle.model.specs.LawsOfMaking.{Trees-by-shapes, Refusals-change-nothing};
+ghost use Rattle.model.specs.LawsOfMaking.{Trees-by-shapes, Records-lie-forward, Refusals-change-nothing};
 ghost use Rattle.model.specs.LawsOfMaking.{Made-as-asked, Rebuilt-over-others};
 ghost use Rattle.model.specs.LawsOfRefusing.{Making-refuses-exactly, Rebuilding-refuses-exactly};
 
@@ -44,6 +44,13 @@ pub fn rebuilt_over_others() -> u8
 /// A node's tree is its function over the trees of its children.
 pub fn trees_by_shapes() -> u8
     ensures { λ _. ⌜ Trees-by-shapes ⌝ }
+{
+    0
+}
+
+/// The record of a number lies at that place where the nodes lie oldest first.
+pub fn records_lie_forward() -> u8
+    ensures { λ _. ⌜ Records-lie-forward ⌝ }
 {
     0
 }
