@@ -19,7 +19,8 @@ use Rattle.meaning.specs.Hosts.{Meaning}
 use Rattle.meaning.proofs.CaseSplits.{none-some}
 use Rattle.model.specs.Stores.{Store, node-at}
 use Rattle.model.specs.Shapes.{tree, trees}
-use Rattle.model.specs.Wanted.{New, root, literal, get-item, cast, binary, between, host, new-bytes, new-tree}
+use Rattle.model.specs.Wanted.{New, root, literal, get-item, cast, binary, between, host, new-bytes}
+use Rattle.model.specs.Wanted.{new-head, new-tree}
 use Rattle.model.specs.Making.{build, entered, schema-first, new-plan}
 use Rattle.model.specs.Rebuilding.{old-plan, itself-or, rebuilt, with-children}
 use Rattle.model.specs.Soundness.{Sound}
@@ -50,7 +51,7 @@ schema-passes (host c) a h = refl
 
 module _ (m : Meaning) (s : Store) (sound : Sound m s) (cs : List ℕ) (n : ℕ) (eight : length cs ≡ 8) where
   planned : (w : New) (r : Refusal) → build m (new-plan w cs n s) s ≡ Err r
-      → Refused m s (new-plan w cs n s) (new-tree (tree s) cs n w) r
+      → Refused m s 65535 (new-head w) (new-bytes w) cs n (new-tree (tree s) cs n w) r
   planned w r h =
       has-cause m s sound (new-plan w cs n s) eight (new-tree (tree s) cs n w)
       (asked-tree m (tree s) cs n eight w) r h
@@ -60,21 +61,21 @@ module _ (m : Meaning) (s : Store) (sound : Sound m s) (cs : List ℕ) (n : ℕ)
   schema-refused (root q) r h =
       elim (either (leb q 7) _ _ r h) [
         | inl v ↦ subst (Refused-new m s (root q) cs n) (v .1) (no-schema q refl (leb-false q 7 (v .0)))
-        | inr v ↦ Refused-new.as-planned (leb-true q 7 (v .0)) (planned (root q) r (v .1))
+        | inr v ↦ Refused-new.of-the-tree (leb-true q 7 (v .0)) (planned (root q) r (v .1))
       ]
-  schema-refused (literal t v) r h = Refused-new.as-planned tt (planned (literal t v) r h)
-  schema-refused (get-item name) r h = Refused-new.as-planned tt (planned (get-item name) r h)
-  schema-refused (cast t) r h = Refused-new.as-planned tt (planned (cast t) r h)
-  schema-refused (binary o) r h = Refused-new.as-planned tt (planned (binary o) r h)
-  schema-refused (between o) r h = Refused-new.as-planned tt (planned (between o) r h)
-  schema-refused (host c) r h = Refused-new.as-planned tt (planned (host c) r h)
+  schema-refused (literal t v) r h = Refused-new.of-the-tree tt (planned (literal t v) r h)
+  schema-refused (get-item name) r h = Refused-new.of-the-tree tt (planned (get-item name) r h)
+  schema-refused (cast t) r h = Refused-new.of-the-tree tt (planned (cast t) r h)
+  schema-refused (binary o) r h = Refused-new.of-the-tree tt (planned (binary o) r h)
+  schema-refused (between o) r h = Refused-new.of-the-tree tt (planned (between o) r h)
+  schema-refused (host c) r h = Refused-new.of-the-tree tt (planned (host c) r h)
 
   new-refused : (w : New) (r : Refusal) → Refused-new m s w cs n r
       → schema-first w (build m (new-plan w cs n s) s) ≡ Err r
   new-refused w r (no-schema q e h) =
       ap (λ (z : New). schema-first z (build m (new-plan w cs n s) s)) e
       ∙ cond-false (leb q 7) _ _ (lt-leb q 7 h)
-  new-refused w r (Refused-new.as-planned h c) =
+  new-refused w r (Refused-new.of-the-tree h c) =
       schema-passes w _ h
       ∙ is-refused m s sound (new-plan w cs n s) eight (new-tree (tree s) cs n w)
       (asked-tree m (tree s) cs n eight w) r c
@@ -121,13 +122,13 @@ module _ (m : Meaning) (s : Store) (sound : Sound m s) (k : ℕ) (cs : List ℕ)
       ]
   node-refused r (Some x) a h =
       let (other, g) = anew-refused k (x .function) n s _ r h in
-      Refused-old.as-planned x a other
+      Refused-old.of-the-tree x a other
       (has-cause m s sound (old-plan k x cs n s) eight (with-operands (tree s k) (trees s (take n cs)))
       (other-tree m s sound k x a cs n eight) r (entered-refused [] s _ r g))
 
   old-refused : (r : Refusal) → Refused-old m s k cs n r → with-children m k cs n s .0 ≡ Err r
   old-refused r (no-such l) = ap (λ (o : Option Node). rebuilt m k o cs n s .0) (node-past (s .nodes) k l)
-  old-refused r (Refused-old.as-planned x a other c) =
+  old-refused r (Refused-old.of-the-tree x a other c) =
       ap (λ (o : Option Node). rebuilt m k o cs n s .0) a
       ∙ ap (λ (z : Result ℕ Refusal × Store). z .0) (is-anew k (x .function) n s _ other)
       ∙ ap (λ (z : Result Node Refusal). entered [] s z .0)
