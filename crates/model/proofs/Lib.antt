@@ -1,0 +1,13 @@
+pub mod Numbers
+pub mod Texts
+pub mod Children
+pub mod Plans
+pub mod Growing
+pub mod Stepping
+pub mod Adding
+pub mod Granting
+pub mod Regranting
+pub mod Missing
+pub mod Refusing
+pub mod Causes
+pub mod Forward

@@ -1,0 +1,64 @@
+//! The laws of making and rebuilding.
+ghost use Rattle.model.specs.LawsOfMaking.{Empty-is-sound, Steps-keep-sound, Steps-only-add, Nodes-stay};
+ghost use Rattle.model.specs.LawsOfMaking.{Trees-by-shapes, Records-lie-forward, Refusals-change-nothing};
+ghost use Rattle.model.specs.LawsOfMaking.{Made-as-asked, Rebuilt-over-others};
+ghost use Rattle.model.specs.LawsOfRefusing.{Making-refuses-exactly, Rebuilding-refuses-exactly};
+
+/// The arena as it is opened is sound, and making and rebuilding keep it so.
+pub fn stores_stay_sound() -> u8
+    ensures opened { λ _. ⌜ Empty-is-sound ⌝ }
+    ensures kept { λ _. ⌜ Steps-keep-sound ⌝ }
+{
+    0
+}
+
+/// What is made stays: steps only add, and change no older node's record, number or tree.
+pub fn nodes_stay() -> u8
+    ensures added { λ _. ⌜ Steps-only-add ⌝ }
+    ensures stay { λ _. ⌜ Nodes-stay ⌝ }
+{
+    0
+}
+
+/// A refusal leaves the store as it was.
+pub fn refusals_change_nothing() -> u8
+    ensures { λ _. ⌜ Refusals-change-nothing ⌝ }
+{
+    0
+}
+
+/// What is made has the next number, and its tree is the function asked for over the children's trees.
+pub fn made_as_asked() -> u8
+    ensures { λ _. ⌜ Made-as-asked ⌝ }
+{
+    0
+}
+
+/// What is rebuilt is the old function over the other children's trees.
+pub fn rebuilt_over_others() -> u8
+    ensures { λ _. ⌜ Rebuilt-over-others ⌝ }
+{
+    0
+}
+
+/// A node's tree is its function over the trees of its children.
+pub fn trees_by_shapes() -> u8
+    ensures { λ _. ⌜ Trees-by-shapes ⌝ }
+{
+    0
+}
+
+/// The record of a number lies at that place where the nodes lie oldest first.
+pub fn records_lie_forward() -> u8
+    ensures { λ _. ⌜ Records-lie-forward ⌝ }
+{
+    0
+}
+
+/// Making and rebuilding are refused exactly for the causes of the refusals, in the order of their numbers.
+pub fn refused_for_their_causes() -> u8
+    ensures made { λ _. ⌜ Making-refuses-exactly ⌝ }
+    ensures rebuilt { λ _. ⌜ Rebuilding-refuses-exactly ⌝ }
+{
+    0
+}
