@@ -1,11 +1,10 @@
 -- When bytes begin with others.
-use mathlib.Core.Path.{_≡_, refl, ap, sym, _∙_}
+use mathlib.Core.Path.{_≡_, refl, ap, _∙_}
 use mathlib.Core.List.{List, [], _∷_, _++_}
-use mathlib.Core.Bool.{Bool, true, _&&_}
+use mathlib.Core.Bool.{Bool, true}
 use Prim.Native.Nat.{ℕ}
 use lib.Dec.{eqb}
 use lib.ListN.{length, drop}
-use Rattle.std.specs.Orderings.{Decides}
 use Rattle.std.proofs.shelf.Tests.{and-parts, and-from, eqb-true, eq-eqb}
 use Rattle.std.proofs.shelf.Ways.{same-from-decides}
 use Rattle.hosts.specs.Labels.{begins, Begins-is-a-front}

@@ -2,64 +2,34 @@
 use mathlib.Core.Path.{_≡_, refl, ap, subst}
 use mathlib.Core.List.{List, [], _∷_}
 use mathlib.Core.Bool.{Bool, true, cond, _&&_, _||_}
-use Prim.Native.Nat.{ℕ, _<_}
+use Prim.Native.Nat.{ℕ}
 use native.Mathlib.Omega.{arith}
 use lib.Dec.{leb}
 use lib.ListN.{length}
 use Rattle.std.specs.Options.{isSome}
 use Rattle.std.specs.declared.option.Option.{Option}
 use Rattle.std.specs.declared.option.Option.the-variants.{Some, None}
-use Rattle.std.proofs.shelf.Tests.{and-parts}
 use Rattle.vocabulary.specs.declared.types.DType.{DType}
 use Rattle.vocabulary.specs.declared.types.Kind.the-variants as kind
 use Rattle.vocabulary.specs.Types.{plainKind, typeOf}
-use Rattle.meaning.specs.Outcomes.{value, host, settled}
-use Rattle.meaning.specs.Values.{Value, null, bool, signed, unsigned, text, ext, whole, fits, all-fit}
+use Rattle.meaning.specs.Outcomes.{value, settled}
+use Rattle.meaning.specs.Values.{Value, fits, all-fit}
 use Rattle.meaning.specs.Hosts.{argument, reply-value, all-plain}
 use Rattle.meaning.specs.Lawful.{Lawful, Names-arguments}
 use Rattle.hosts.specs.declared.labels.LabelFunction.{LabelFunction}
 use Rattle.hosts.specs.declared.labels.LabelFunction.the-variants.{Length, StartsWith}
 use Rattle.hosts.specs.Labels.{labels, label-function, labels-takes, labels-types, labels-gives}
-use Rattle.hosts.specs.Labels.{length-type, starts-type, length-reply, begins-with, starts-reply}
-use Rattle.hosts.proofs.Tools.{none-some, fault-value, fails-argument, value-same, cond-some, some-under}
+use Rattle.hosts.specs.Labels.{length-type, starts-type, length-reply, starts-reply}
+use Rattle.hosts.proofs.Tools.{none-some, cond-some, some-under}
 use Rattle.hosts.proofs.Tools.{one-some, two-some, fit-one, fit-two}
 
 length-fits : (w : Value) (ws : List Value) (u : DType) (v : Value) → fits w u ≡ true
     → reply-value ws (length-reply w) ≡ value v → fits v (typeOf kind.U64 (u .nullable)) ≡ true
-length-fits null ws u v p h = subst (λ x. fits x (typeOf kind.U64 (u .nullable)) ≡ true) (value-same h) (rw p refl)
-length-fits (bool b) ws u v p h = fault-value (host 0) v h
-length-fits (signed b) ws u v p h = fault-value (host 0) v h
-length-fits (unsigned b) ws u v p h = fault-value (host 0) v h
-length-fits (text b) ws u v p h =
-    subst (λ x. fits x (typeOf kind.U64 (u .nullable)) ≡ true) (value-same h) (and-parts _ _ p .1)
-length-fits (ext e b) ws u v p h = fault-value (host 0) v h
-length-fits (whole b) ws u v p h = fault-value (host 0) v h
-
-second-null : (a b : Bool) → b ≡ true → ((a || b) && true) ≡ true
-second-null a b p = grind arith
-
-begins-fits : (bs : List ℕ) (w : Value) (ws : List Value) (n : Bool) (u : DType) (v : Value) → fits w u ≡ true
-    → reply-value ws (begins-with bs w) ≡ value v → fits v (typeOf kind.Bool (n || u .nullable)) ≡ true
-begins-fits bs null ws n u v p h =
-    subst (λ x. fits x (typeOf kind.Bool (n || u .nullable)) ≡ true) (value-same h) (second-null n (u .nullable) p)
-begins-fits bs (bool b) ws n u v p h = fault-value (host 0) v h
-begins-fits bs (signed b) ws n u v p h = fault-value (host 0) v h
-begins-fits bs (unsigned b) ws n u v p h = fault-value (host 0) v h
-begins-fits bs (text b) ws n u v p h =
-    subst (λ x. fits x (typeOf kind.Bool (n || u .nullable)) ≡ true) (value-same h) refl
-begins-fits bs (ext e b) ws n u v p h = fault-value (host 0) v h
-begins-fits bs (whole b) ws n u v p h = fault-value (host 0) v h
+length-fits w ws u v p h = grind arith
 
 starts-fits : (x w : Value) (ws : List Value) (t u : DType) (v : Value) → fits x t ≡ true → fits w u ≡ true
     → reply-value ws (starts-reply x w) ≡ value v → fits v (typeOf kind.Bool (t .nullable || u .nullable)) ≡ true
-starts-fits null w ws t u v p q h =
-    subst (λ x. fits x (typeOf kind.Bool (t .nullable || u .nullable)) ≡ true) (value-same h) (rw p refl)
-starts-fits (bool b) w ws t u v p q h = fault-value (host 0) v h
-starts-fits (signed b) w ws t u v p q h = fault-value (host 0) v h
-starts-fits (unsigned b) w ws t u v p q h = fault-value (host 0) v h
-starts-fits (text b) w ws t u v p q h = begins-fits b w ws (t .nullable) u v q h
-starts-fits (ext e b) w ws t u v p q h = fault-value (host 0) v h
-starts-fits (whole b) w ws t u v p q h = fault-value (host 0) v h
+starts-fits x w ws t u v p q h = grind arith
 
 -- the type of a call, by its function
 abbrev typed : Option LabelFunction → List DType → Option DType
@@ -111,43 +81,9 @@ labels-lawful = record {
   rule-value = λ c ts t ls vs v p q a h. ap settled h;
 }
 
-length-names : (v : Value) (i : ℕ) → length-reply v ≡ argument i → ⊥
-length-names null i p = let y : _≡_ {A = ℕ} 0 1 = cc in omega arith
-length-names (bool b) i p = fails-argument 0 i p
-length-names (signed z) i p = fails-argument 0 i p
-length-names (unsigned n) i p = fails-argument 0 i p
-length-names (text b) i p = let y : _≡_ {A = ℕ} 0 1 = cc in omega arith
-length-names (ext e z) i p = fails-argument 0 i p
-length-names (whole s) i p = fails-argument 0 i p
-
-begins-names : (bs : List ℕ) (w : Value) (i : ℕ) → begins-with bs w ≡ argument i → ⊥
-begins-names bs null i p = let y : _≡_ {A = ℕ} 0 1 = cc in omega arith
-begins-names bs (bool b) i p = fails-argument 0 i p
-begins-names bs (signed z) i p = fails-argument 0 i p
-begins-names bs (unsigned n) i p = fails-argument 0 i p
-begins-names bs (text b) i p = let y : _≡_ {A = ℕ} 0 1 = cc in omega arith
-begins-names bs (ext e z) i p = fails-argument 0 i p
-begins-names bs (whole s) i p = fails-argument 0 i p
-
-starts-names : (v w : Value) (i : ℕ) → starts-reply v w ≡ argument i → ⊥
-starts-names null w i p = let y : _≡_ {A = ℕ} 0 1 = cc in omega arith
-starts-names (bool b) w i p = fails-argument 0 i p
-starts-names (signed z) w i p = fails-argument 0 i p
-starts-names (unsigned n) w i p = fails-argument 0 i p
-starts-names (text b) w i p = begins-names b w i p
-starts-names (ext e z) w i p = fails-argument 0 i p
-starts-names (whole s) w i p = fails-argument 0 i p
-
 -- no function replies an argument
-names : (f : Option LabelFunction) (vs : List Value) (i : ℕ) → labels-gives f vs ≡ argument i → ⊥
-names None vs i p = fails-argument 0 i p
-names (Some Length) [] i p = fails-argument 0 i p
-names (Some Length) (v ∷ []) i p = length-names v i p
-names (Some Length) (v ∷ (w ∷ vs)) i p = fails-argument 0 i p
-names (Some StartsWith) [] i p = fails-argument 0 i p
-names (Some StartsWith) (v ∷ []) i p = fails-argument 0 i p
-names (Some StartsWith) (v ∷ (w ∷ [])) i p = starts-names v w i p
-names (Some StartsWith) (v ∷ (w ∷ (x ∷ vs))) i p = fails-argument 0 i p
+no-argument : (f : Option LabelFunction) (vs : List Value) (i : ℕ) → labels-gives f vs ≡ argument i → ⊥
+no-argument f vs i p = let y : _≡_ {A = ℕ} 0 1 = grind arith in omega arith
 
 pub labels-names : Names-arguments labels
-labels-names c i ts t vs p q h = absurd (names (label-function c) vs i h)
+labels-names c i ts t vs p q h = absurd (no-argument (label-function c) vs i h)

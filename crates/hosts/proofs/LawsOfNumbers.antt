@@ -2,11 +2,10 @@
 use mathlib.Core.Path.{_≡_, refl, ap, sym, subst, _∙_}
 use mathlib.Core.List.{List, [], _∷_}
 use mathlib.Core.Bool.{Bool, true, false, cond, _&&_}
-use Prim.Native.Nat.{ℕ, suc, _+_, _^_, _<_, _≤_}
+use Prim.Native.Nat.{ℕ, suc, _+_, _<_}
 use native.Mathlib.Omega.{arith}
 use native.Mathlib.Nat.{add-zero}
-use lib.Dec.{leb, ltb}
-use lib.IntN.{ℤ, pos, negsuc}
+use lib.Dec.{leb}
 use lib.ListN.{length}
 use Rattle.std.specs.Options.{isSome}
 use Rattle.std.specs.declared.option.Option.{Option}
@@ -17,18 +16,18 @@ use Rattle.vocabulary.specs.declared.types.DType.{DType}
 use Rattle.vocabulary.specs.declared.types.Kind.{Kind}
 use Rattle.vocabulary.specs.declared.types.Kind.the-variants as kind
 use Rattle.vocabulary.specs.Types.{plainKind, sameKind, typeOf}
-use Rattle.meaning.specs.Outcomes.{Outcome, value, fault, host, settled}
-use Rattle.meaning.specs.Lists.{of-one, nth}
-use Rattle.meaning.specs.Values.{Value, null, bool, signed, unsigned, text, ext, whole, is-null, in-i64, fits, all-fit}
-use Rattle.meaning.specs.Hosts.{Reply, argument, plain, fails, nothing, child, reply-value, argument-value}
-use Rattle.meaning.specs.Hosts.{all-plain, host-type, host-value}
-use Rattle.meaning.specs.Lawful.{Lawful, Agree, Names-arguments, answer-type, answer-value, answer-once}
+use Rattle.meaning.specs.Outcomes.{value, host, settled}
+use Rattle.meaning.specs.Lists.{nth}
+use Rattle.meaning.specs.Values.{Value, is-null, fits, all-fit}
+use Rattle.meaning.specs.Hosts.{argument, fails, nothing, child, reply-value, argument-value}
+use Rattle.meaning.specs.Hosts.{all-plain, host-value}
+use Rattle.meaning.specs.Lawful.{Lawful, Names-arguments, answer-type, answer-value, answer-once}
 use Rattle.hosts.specs.declared.numbers.NumberFunction.{NumberFunction}
 use Rattle.hosts.specs.declared.numbers.NumberFunction.the-variants.{Abs, Coalesce}
 use Rattle.hosts.specs.Numbers.{numbers, number-function, numbers-takes, numbers-types, numbers-gives, numbers-rule}
-use Rattle.hosts.specs.Numbers.{abs-type, abs-number, abs-reply, all-alike, all-nullable, coalesce-type}
-use Rattle.hosts.specs.Numbers.{first-given, coalesced, coalesce-reply, coalesce-rule, Coalesce-is-the-first}
-use Rattle.hosts.proofs.Tools.{none-some, fault-value, false-true, fails-argument, value-same}
+use Rattle.hosts.specs.Numbers.{abs-type, abs-reply, all-alike, all-nullable, coalesce-type}
+use Rattle.hosts.specs.Numbers.{first-given, coalesced, Coalesce-is-the-first}
+use Rattle.hosts.proofs.Tools.{none-some, fault-value, fails-argument, value-same}
 use Rattle.hosts.proofs.Tools.{cond-some, some-under, one-some, fit-nil, fit-cons, fit-one, null-fits, plain-type}
 
 -- a null goes on to the next, another value is the first
@@ -64,13 +63,7 @@ coalesce-value vs v false h = fault-value (host 0) v h
 -- a value other than null fits its kind, nullable or not
 solid-fits : (v : Value) (k : Kind) (n i : Bool) → is-null v ≡ false
     → fits v (record { kind = k; nullable = n }) ≡ true → fits v (record { kind = k; nullable = i }) ≡ true
-solid-fits null k n i p h = false-true (sym p)
-solid-fits (bool b) k n i p h = h
-solid-fits (signed b) k n i p h = h
-solid-fits (unsigned b) k n i p h = h
-solid-fits (text b) k n i p h = h
-solid-fits (ext e b) k n i p h = h
-solid-fits (whole b) k n i p h = h
+solid-fits v k n i p h = grind arith
 
 -- the first of two fits where it is not null, else the second
 first-fits : (k : Kind) (n i : Bool) (v w : Value) (b : Bool) → is-null v ≡ b
@@ -103,21 +96,9 @@ all-fits t ts vs l p =
     rw e (first-fits (t .kind) (t .nullable) (all-nullable ts) v (coalesced ws) (is-null v) refl a
     (rest-fits t ts ws l b))
 
--- a number without its sign fits where there is one
-abs-number-fits : (z : ℤ) (ws : List Value) (n : Bool) (v : Value) → in-i64 z ≡ true
-    → reply-value ws (abs-number z) ≡ value v → fits v (typeOf kind.I64 n) ≡ true
-abs-number-fits (pos k) ws n v p h = subst (λ x. fits x (typeOf kind.I64 n) ≡ true) (value-same h) p
-abs-number-fits (negsuc k) ws n v p h = grind arith
-
 abs-fits : (w : Value) (ws : List Value) (u : DType) (v : Value) → fits w u ≡ true
     → reply-value ws (abs-reply w) ≡ value v → fits v (typeOf kind.I64 (u .nullable)) ≡ true
-abs-fits null ws u v p h = subst (λ x. fits x (typeOf kind.I64 (u .nullable)) ≡ true) (value-same h) (rw p refl)
-abs-fits (bool b) ws u v p h = fault-value (host 0) v h
-abs-fits (signed z) ws u v p h = abs-number-fits z ws (u .nullable) v (and-parts _ _ p .1) h
-abs-fits (unsigned b) ws u v p h = fault-value (host 0) v h
-abs-fits (text b) ws u v p h = fault-value (host 0) v h
-abs-fits (ext e b) ws u v p h = fault-value (host 0) v h
-abs-fits (whole b) ws u v p h = fault-value (host 0) v h
+abs-fits w ws u v p h = grind arith
 
 -- the type of a call, by its function
 abbrev typed : Option NumberFunction → List DType → Option DType
@@ -227,18 +208,8 @@ numbers-lawful = record {
   rule-value = λ c ts t ls vs v p q a h. numbers-rule-value c (number-function c) ts t vs v p q h h;
 }
 
--- the number is no argument
-abs-number-names : (z : ℤ) (i : ℕ) → abs-number z ≡ argument i → ⊥
-abs-number-names z i p = let y : _≡_ {A = ℕ} 0 1 = grind arith in omega arith
-
 abs-names : (v : Value) (i : ℕ) → abs-reply v ≡ argument i → ⊥
-abs-names null i p = let y : _≡_ {A = ℕ} 0 1 = cc in omega arith
-abs-names (bool b) i p = fails-argument 0 i p
-abs-names (signed z) i p = abs-number-names z i p
-abs-names (unsigned n) i p = fails-argument 0 i p
-abs-names (text b) i p = fails-argument 0 i p
-abs-names (ext e z) i p = fails-argument 0 i p
-abs-names (whole s) i p = fails-argument 0 i p
+abs-names v i p = let y : _≡_ {A = ℕ} 0 1 = grind arith in omega arith
 
 next-names : (v : Value) (vs : List Value) (i j : ℕ) (b : Bool)
     → (first-given (j + 1) vs ≡ argument i → i < (j + 1) + length vs)

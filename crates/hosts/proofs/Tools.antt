@@ -1,7 +1,7 @@
 -- Options, outcomes and lists of values that fit lists of types.
 use mathlib.Core.Path.{_≡_, refl, ap, _∙_}
 use mathlib.Core.List.{List, [], _∷_}
-use mathlib.Core.Bool.{Bool, true, false, cond, _&&_}
+use mathlib.Core.Bool.{Bool, true, false, cond}
 use Prim.Native.Nat.{ℕ}
 use native.Mathlib.Omega.{arith}
 use Rattle.std.specs.declared.option.Option.{Option}
@@ -9,12 +9,11 @@ use Rattle.std.specs.declared.option.Option.the-variants.{Some, None}
 use Rattle.std.proofs.shelf.Tests.{and-parts}
 use Rattle.vocabulary.specs.declared.types.DType.{DType}
 use Rattle.vocabulary.specs.declared.types.Kind.{Kind}
-use Rattle.vocabulary.specs.declared.types.Kind.the-variants as kind
 use Rattle.vocabulary.specs.Types.{plainKind, typeOf}
 use Rattle.meaning.specs.Outcomes.{Outcome, value, fault, Fault}
 use Rattle.meaning.specs.Lists.{of-one, of-two}
 use Rattle.meaning.specs.Values.{Value, null, bool, signed, unsigned, text, ext, whole, is-null, fits, all-fit}
-use Rattle.meaning.specs.Hosts.{Reply, argument, fails}
+use Rattle.meaning.specs.Hosts.{argument, fails}
 
 pub none-some : {A B : Type 0} (a : A) → _≡_ {A = Option A} None (Some a) → B
 none-some a p = let z : _≡_ {A = ℕ} 0 1 = cc in absurd (omega arith)
