@@ -11,3 +11,7 @@ pub mod Missing
 pub mod Refusing
 pub mod Causes
 pub mod Forward
+pub mod BindingSteps
+pub mod BindingGranted
+pub mod UnboundNumbers
+pub mod BindingLaws

@@ -7,3 +7,7 @@ pub mod Soundness
 pub mod Steps
 pub mod LawsOfMaking
 pub mod LawsOfRefusing
+pub mod Unbound
+pub mod BindingTrees
+pub mod UnboundSoundness
+pub mod LawsOfBinding

@@ -1,8 +1,9 @@
-//! The laws of making and rebuilding.
+//! The laws of making, rebuilding and binding.
 ghost use Rattle.model.specs.LawsOfMaking.{Empty-is-sound, Steps-keep-sound, Steps-only-add, Nodes-stay};
 ghost use Rattle.model.specs.LawsOfMaking.{Trees-by-shapes, Records-lie-forward, Refusals-change-nothing};
 ghost use Rattle.model.specs.LawsOfMaking.{Made-as-asked, Rebuilt-over-others};
 ghost use Rattle.model.specs.LawsOfRefusing.{Making-refuses-exactly, Rebuilding-refuses-exactly};
+ghost use Rattle.model.specs.LawsOfBinding.{Bound-as-asked, Binding-keeps-the-store, One-node-for-each-place};
 
 /// The arena as it is opened is sound, and making and rebuilding keep it so.
 pub fn stores_stay_sound() -> u8
@@ -59,6 +60,27 @@ pub fn records_lie_forward() -> u8
 pub fn refused_for_their_causes() -> u8
     ensures made { λ _. ⌜ Making-refuses-exactly ⌝ }
     ensures rebuilt { λ _. ⌜ Rebuilding-refuses-exactly ⌝ }
+{
+    0
+}
+
+/// A bound node's tree is the unbound tree against the schema, and its record has the type of that tree.
+pub fn bound_as_asked() -> u8
+    ensures { λ _. ⌜ Bound-as-asked ⌝ }
+{
+    0
+}
+
+/// Binding keeps a store sound and only adds nodes; older nodes stay.
+pub fn binding_keeps_the_store() -> u8
+    ensures { λ _. ⌜ Binding-keeps-the-store ⌝ }
+{
+    0
+}
+
+/// Binding makes one node for each place of the tree, and answers the last of them.
+pub fn one_node_for_each_place() -> u8
+    ensures { λ _. ⌜ One-node-for-each-place ⌝ }
 {
     0
 }
