@@ -20,24 +20,27 @@ use Rattle.model.specs.Making.{head-counts}
 use Rattle.model.specs.Soundness.{Below, Sound}
 use Rattle.model.specs.LawsOfMaking.{Grows}
 use Rattle.model.specs.Unbound.{UnboundNode, unbound-kids, rows, seen}
+use Rattle.model.specs.UnboundSoundness.{any-host}
 use Rattle.model.specs.BindingTrees.{onward, asked, bind-over, bind-all, bind-among}
 use Rattle.model.proofs.Adding.{steps-only-add}
 use Rattle.model.proofs.Children.{err-ok, ok-same}
 use Rattle.model.proofs.Numbers.{tree-newest}
 use Rattle.model.proofs.BindingSteps.{onward-ok, tree-lasts, head-asked, heads-agree, shape-size, stepped}
 
--- a record of the number n whose children are older, and at most eight
-pub record Fit (n : ℕ) (x : UnboundNode) : Type 0 where
+-- a record of the number n, over that text, whose children are older and as many as they may be
+pub record Fit (text : List ℕ) (n : ℕ) (x : UnboundNode) : Type 0 where
   pub older : Below n (unbound-kids x)
+  pub counted : (q : ℕ) → head-counts any-host (head-of text (rows q) (x .function)) (x .«child_count») ≡ true
   pub eight : length (x .children) ≡ 8
   pub few : x .«child_count» ≤ 8
 
-abbrev pub Fits : List UnboundNode → Type 0
-Fits [] = Unit {0}
-Fits (x ∷ xs) = Fit (length xs) x × Fits xs
+abbrev pub Fits : List ℕ → List UnboundNode → Type 0
+Fits text [] = Unit {0}
+Fits text (x ∷ xs) = Fit text (length xs) x × Fits text xs
 
-pub kids-long : (n : ℕ) (x : UnboundNode) → Fit n x → length (unbound-kids x) ≡ x .«child_count»
-kids-long n x f =
+pub kids-long : (text : List ℕ) (n : ℕ) (x : UnboundNode) → Fit text n x
+    → length (unbound-kids x) ≡ x .«child_count»
+kids-long text n x f =
     let few = f .few in
     simp (length-take, f .eight) (omega arith)
 
@@ -62,6 +65,7 @@ pub record Bound-all (m : Meaning) (g : ℕ → Expr) (ks : List ℕ) (s later :
   pub trees-are : trees-by (tree later) js ≡ trees-by g ks
   pub as-many : length (later .nodes) ≡ length (s .nodes) + sizes (trees-by g ks)
   pub long : length js ≡ length ks
+  pub there : Below (length (later .nodes)) js
 
 -- each binding by f that is granted binds to the tree by g
 abbrev pub Binds : Meaning → (ℕ → Store → Result ℕ Refusal × Store) → (ℕ → Expr) → Type 0
@@ -81,6 +85,7 @@ all-granted m f g one [] s sound js later e =
       trees-are = refl;
       as-many = omega arith;
       long = refl;
+      there = tt;
     }))
 all-granted m f g one (k ∷ ks) s sound js later e =
     let p = onward-ok (f k s) _ js later e in
@@ -107,6 +112,7 @@ all-granted m f g one (k ∷ ks) s sound js later e =
           ∙ ap (cons (g k)) (rest .trees-are);
       as-many = omega (arith, first .as-many, rest .as-many);
       long = ap suc (rest .long);
+      there = (omega (arith, below, rest .as-many), rest .there);
     }))
 
 -- the tree of a number that is not the newest
@@ -122,7 +128,7 @@ module _ (m : Meaning) (q : ℕ) (text : List ℕ) where
   trees-in xs n = tree-among text (map (seen q) xs) n
 
   -- a node over children that are bound
-  pub over-granted : (g : ℕ → Expr) (at : ℕ) (x : UnboundNode) → Fit at x → (s s1 : Store) (js : List ℕ)
+  pub over-granted : (g : ℕ → Expr) (at : ℕ) (x : UnboundNode) → Fit text at x → (s s1 : Store) (js : List ℕ)
       → Bound-all m g (unbound-kids x) s s1 js → (k : ℕ) (later : Store)
       → bind-over m q text at x js s1 ≡ (Ok k, later)
       → Bound m (shape-tree g (shape text (seen q x))) s later k
@@ -131,7 +137,7 @@ module _ (m : Meaning) (q : ℕ) (text : List ℕ) where
       let ks = unbound-kids x in
       let h = head-of text (rows q) (x .function) in
       let same : new-head w ≡ h = head-asked q text (x .function) in
-      let long : length js ≡ x .«child_count» = all .long ∙ kids-long at x fit in
+      let long : length js ≡ x .«child_count» = all .long ∙ kids-long text at x fit in
       let t = stepped m s1 (all .kept .sound) at w js (x .«child_count») long (fit .few) k later e in
       let counted : head-counts m h (length ks) ≡ true =
       ap (head-counts m h) (sym (all .long)) ∙ ap (λ (z : Head). head-counts m z (length js)) (sym same)
@@ -147,7 +153,7 @@ module _ (m : Meaning) (q : ℕ) (text : List ℕ) where
         last = omega (arith, t .number, t .one-more);
       }
 
-  pub granted : (xs : List UnboundNode) → Fits xs → Binds m (bind-among m q text xs) (trees-in xs)
+  pub granted : (xs : List UnboundNode) → Fits text xs → Binds m (bind-among m q text xs) (trees-in xs)
   unfolding bind-among
   granted [] fits n s sound k later e = err-ok _ k (ap (λ (z : Result ℕ Refusal × Store). z .0) e)
   granted (x ∷ xs) fits n s sound k later e = go (granted xs (fits .1)) (eqb n (length xs)) refl e
@@ -161,7 +167,7 @@ module _ (m : Meaning) (q : ℕ) (text : List ℕ) where
           let all =
           all-granted m (bind-among m q text xs) (trees-in xs) one (unbound-kids x) s sound (p .answer) (p .between)
           (p .before) in
-          let fit : Fit n x = subst (λ (z : ℕ). Fit z x) (sym i) (fits .0) in
+          let fit : Fit text n x = subst (λ (z : ℕ). Fit text z x) (sym i) (fits .0) in
           let newest : trees-in (x ∷ xs) n ≡ shape-tree (trees-in xs) (shape text (seen q x)) =
           tree-newest text (seen q x) (map (seen q) xs) n (i ∙ sym (length-map xs (seen q))) in
           subst (λ (z : Expr). Bound m z s later k) (sym newest)

@@ -27,17 +27,21 @@ use Rattle.model.proofs.UnboundNumbers.{unbound-older, unbound-newest, unbound
 use Rattle.model.proofs.BindingSteps.{tree-lasts, node-lasts}
 use Rattle.model.proofs.BindingGranted.{Fit, Fits, Bound, grown-from, granted}
 
-fits-all : (xs : List UnboundNode) → ((n : ℕ) (x : UnboundNode) → unbound-among xs n ≡ Some x → Fit n x) → Fits xs
-fits-all [] h = tt
-fits-all (x ∷ xs) h = (
+fits-all : (text : List ℕ) (xs : List UnboundNode)
+    → ((n : ℕ) (x : UnboundNode) → unbound-among xs n ≡ Some x → Fit text n x) → Fits text xs
+fits-all text [] h = tt
+fits-all text (x ∷ xs) h = (
   h (length xs) x (unbound-newest x xs (length xs) refl),
-  fits-all xs (λ n y e. h n y (unbound-older x xs n (unbound-below xs n y e) ∙ e)),
+  fits-all text xs (λ n y e. h n y (unbound-older x xs n (unbound-below xs n y e) ∙ e)),
 )
 
 -- the records of a sound unbound arena fit
-pub sound-fits : (u : UnboundStore) → Sound-unbound u → Fits (u .nodes)
-sound-fits u sound = fits-all (u .nodes) (λ n x e.
-    let r = sound .each 0 n x e in record { older = r .older; eight = r .eight; few = r .few })
+pub sound-fits : (u : UnboundStore) → Sound-unbound u → Fits (u .text) (u .nodes)
+sound-fits u sound =
+    fits-all (u .text) (u .nodes)
+    (λ n x e.
+    let r = sound .each 0 n x e in
+    record { older = r .older; counted = λ q. sound .each q n x e .counted; eight = r .eight; few = r .few })
 
 first-ok : (b : Bool) (r : Refusal) (s : Store) (next : Result ℕ Refusal × Store) (k : ℕ) (later : Store)
     → first b r s next ≡ (Ok k, later) → next ≡ (Ok k, later)

@@ -15,3 +15,7 @@ pub mod BindingSteps
 pub mod BindingGranted
 pub mod UnboundNumbers
 pub mod BindingLaws
+pub mod BindingStopped
+pub mod BindingHalts
+pub mod BindingCauses
+pub mod BindingTypes

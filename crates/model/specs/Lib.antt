@@ -11,3 +11,4 @@ pub mod Unbound
 pub mod BindingTrees
 pub mod UnboundSoundness
 pub mod LawsOfBinding
+pub mod LawsOfRefusedBinding

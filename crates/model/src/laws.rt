@@ -4,6 +4,8 @@ ghost use Rattle.model.specs.LawsOfMaking.{Trees-by-shapes, Records-lie-forwar
 ghost use Rattle.model.specs.LawsOfMaking.{Made-as-asked, Rebuilt-over-others};
 ghost use Rattle.model.specs.LawsOfRefusing.{Making-refuses-exactly, Rebuilding-refuses-exactly};
 ghost use Rattle.model.specs.LawsOfBinding.{Bound-as-asked, Binding-keeps-the-store, One-node-for-each-place};
+ghost use Rattle.model.specs.LawsOfRefusedBinding.{Refused-bindings-change-nothing, Binding-refuses-for-causes};
+ghost use Rattle.model.specs.LawsOfRefusedBinding.{Types-refuse-no-tree-that-binds};
 
 /// The arena as it is opened is sound, and making and rebuilding keep it so.
 pub fn stores_stay_sound() -> u8
@@ -81,6 +83,15 @@ pub fn binding_keeps_the_store() -> u8
 /// Binding makes one node for each place of the tree, and answers the last of them.
 pub fn one_node_for_each_place() -> u8
     ensures { λ _. ⌜ One-node-for-each-place ⌝ }
+{
+    0
+}
+
+/// A refused binding leaves the store as it was, and has its cause at a node of the tree, which it names.
+pub fn binding_refuses_for_causes() -> u8
+    ensures leaves { λ _. ⌜ Refused-bindings-change-nothing ⌝ }
+    ensures causes { λ _. ⌜ Binding-refuses-for-causes ⌝ }
+    ensures types { λ _. ⌜ Types-refuse-no-tree-that-binds ⌝ }
 {
     0
 }
