@@ -20,7 +20,7 @@ use Rattle.model.specs.Making.{head-counts}
 use Rattle.model.specs.Soundness.{Below, Sound}
 use Rattle.model.specs.LawsOfMaking.{Grows}
 use Rattle.model.specs.Unbound.{UnboundNode, unbound-kids, rows, seen}
-use Rattle.model.specs.UnboundSoundness.{any-host}
+use Rattle.model.specs.UnboundMaking.{any-host}
 use Rattle.model.specs.BindingTrees.{onward, asked, bind-over, bind-all, bind-among}
 use Rattle.model.proofs.Adding.{steps-only-add}
 use Rattle.model.proofs.Children.{err-ok, ok-same}

@@ -1,138 +1,36 @@
 -- Where a binding that is refused halts.
 use mathlib.Core.Bool.{Bool, true, false, cond}
 use mathlib.Core.List.{List, [], _∷_, map}
-use mathlib.Core.Logic.{inl, inr}
 use mathlib.Core.Path.{_≡_, refl, ap, sym, subst, _∙_}
 use Prim.Native.Nat.{ℕ, suc, _+_, _<_}
 use native.Mathlib.Omega.{arith}
 use lib.Dec.{eqb}
 use lib.ListN.{length, length-map}
 use Rattle.std.proofs.shelf.Tests.{eqb-true, eqb-false}
-use Rattle.std.specs.declared.option.Option.the-variants.{Some}
-use Rattle.std.specs.declared.result.Result.{Result}
-use Rattle.std.specs.declared.result.Result.the-variants.{Ok, Err}
-use Rattle.vocabulary.specs.declared.nodes.Node.{Node}
+use Rattle.std.specs.declared.result.Result.the-variants.{Err}
 use Rattle.vocabulary.specs.declared.refusals.Refusal.{Refusal}
 use Rattle.vocabulary.specs.Nodes.{padded}
 use Rattle.meaning.specs.Hosts.{Meaning}
 use Rattle.meaning.specs.Trees.{Expr, size, sizes}
 use Rattle.model.specs.Stores.{Store}
-use Rattle.model.specs.Shapes.{Head, head-of, shape, shaped, trees-by, shape-tree, tree}
-use Rattle.model.specs.Wanted.{new-bytes, new-head}
-use Rattle.model.specs.Making.{named, head-counts, build, entered}
-use Rattle.model.specs.Soundness.{Below, Sound}
+use Rattle.model.specs.Shapes.{head-of, shape, trees-by, shape-tree, tree}
+use Rattle.model.specs.Wanted.{new-bytes}
+use Rattle.model.specs.Making.{head-counts}
+use Rattle.model.specs.Soundness.{Sound}
 use Rattle.model.specs.LawsOfRefusing.{Refused}
-use Rattle.model.specs.Unbound.{UnboundNode, unbound-among, unbound-kids, rows, seen}
-use Rattle.model.specs.UnboundSoundness.{any-host}
-use Rattle.model.specs.BindingTrees.{onward, asked, plan-at, bind-over, bind-all, bind-among}
-use Rattle.model.specs.LawsOfRefusedBinding.{One-of, Stands-in, itself, under}
-use Rattle.model.proofs.Children.{err-ok}
-use Rattle.model.proofs.Missing.{err-same}
-use Rattle.model.proofs.Numbers.{tree-newest, tree-older}
-use Rattle.model.proofs.Refusing.{has-cause}
-use Rattle.model.proofs.UnboundNumbers.{unbound-older, unbound-newest, unbound-below}
-use Rattle.model.proofs.BindingSteps.{head-asked, padded-long, padded-back, heads-agree, shape-size}
-use Rattle.model.proofs.BindingGranted.{Fit, Fits, kids-long, Kept, Bound-all, all-granted, trees-in, granted}
-use Rattle.model.proofs.BindingStopped.{stands-still, Stops, at-first, at-second, onward-err, Stopped-child, all-stopped}
+use Rattle.model.specs.Unbound.{UnboundNode, unbound-kids, rows, seen}
+use Rattle.model.specs.UnboundMaking.{any-host}
+use Rattle.model.specs.BindingTrees.{onward, asked, bind-over, bind-all, bind-among}
+use Rattle.model.specs.LawsOfRefusedBinding.{itself, under}
+use Rattle.model.proofs.Numbers.{tree-newest}
+use Rattle.model.proofs.UnboundNumbers.{unbound-newest}
+use Rattle.model.proofs.BindingSteps.{shape-size}
+use Rattle.model.proofs.BindingGranted.{Fit, Fits, kids-long, Bound-all, all-granted, trees-in, granted}
+use Rattle.model.proofs.BindingStopped.{stands-still, Stops, at-first, at-second, onward-err, Stopped-child}
+use Rattle.model.proofs.BindingStopped.{all-stopped}
+use Rattle.model.proofs.BindingRefused.{Halted, Halts, older-tree, lifted, one-below, over-refused}
 
 module _ (m : Meaning) (q : ℕ) (text : List ℕ) where
-  -- a node that is refused, over children that are bound, in the store that those before it came to
-  pub record Halt (xs : List UnboundNode) (s : Store) (r : Refusal) : Type 0 where
-    pub at : ℕ
-    pub node-of : UnboundNode
-    pub found : unbound-among xs at ≡ Some node-of
-    pub store : Store
-    pub kept : Kept m s store
-    pub bound : List ℕ
-    pub long : length bound ≡ node-of .«child_count»
-    pub there : Below (length (store .nodes)) bound
-    pub cause :
-        Refused m store at (head-of text (rows q) (node-of .function)) (new-bytes (asked q text (node-of .function)))
-        (padded bound (node-of .«child_count»)) (node-of .«child_count») (trees-in m q text xs at) r
-
-  -- a node of the tree of n, when fewer nodes were made than the tree has places
-  pub record Halted (xs : List UnboundNode) (n : ℕ) (s : Store) (r : Refusal) : Type 0 where
-    pub halt : Halt xs s r
-    pub stands : Stands-in xs n (halt .at)
-    pub room : length (halt .store .nodes) < length (s .nodes) + size (trees-in m q text xs n)
-
-  -- binding a number below the count of the nodes halts where it is refused
-  abbrev pub Halts : List UnboundNode → ℕ → Store → Refusal → Type 0
-  Halts xs n s r = n < length xs → Halted xs n s r
-
-  -- the tree of an older node
-  older-tree : (x : UnboundNode) (xs : List UnboundNode) (n : ℕ) → n < length xs
-      → trees-in m q text (x ∷ xs) n ≡ trees-in m q text xs n
-  older-tree x xs n l =
-      let e : length (map (seen q) xs) ≡ length xs = length-map xs (seen q) in
-      tree-older text (seen q x) (map (seen q) xs) n (omega arith)
-
-  -- one more node in front, and from a store before
-  lifted : (x : UnboundNode) (xs : List UnboundNode) (s t : Store) (r : Refusal) → Kept m s t → Halt xs t r
-      → Halt (x ∷ xs) s r
-  lifted x xs s t r kept h =
-      let l = unbound-below xs (h .at) (h .node-of) (h .found) in
-      record {
-        at = h .at;
-        node-of = h .node-of;
-        found = unbound-older x xs (h .at) l ∙ h .found;
-        store = h .store;
-        kept = record {
-          sound = h .kept .sound;
-          grow = λ from g. h .kept .grow from (kept .grow from g);
-        };
-        bound = h .bound;
-        long = h .long;
-        there = h .there;
-        cause =
-            subst
-            (λ (e : Expr).
-            Refused m (h .store) (h .at) (head-of text (rows q) (h .node-of .function))
-            (new-bytes (asked q text (h .node-of .function)))
-            (padded (h .bound) (h .node-of .«child_count»)) (h .node-of .«child_count») e r)
-            (sym (older-tree x xs (h .at) l))
-            (h .cause);
-      }
-
-  pub one-below : (n : ℕ) (ks : List ℕ) (k : ℕ) → Below n ks → One-of k ks → k < n
-  one-below n [] k w h = absurd h
-  one-below n (i ∷ is) k w (inl e) = omega (arith, e, w .0)
-  one-below n (i ∷ is) k w (inr h) = one-below n is k (w .1) h
-
-  entered-refused : (bs : List ℕ) (s : Store) (a : Result Node Refusal) (r : Refusal) (later : Store)
-      → entered bs s a ≡ (Err r, later) → a ≡ Err r
-  entered-refused bs s (Ok x) r later e = err-ok r _ (sym (ap (λ (z : Result ℕ Refusal × Store). z .0) e))
-  entered-refused bs s (Err p) r later e = ap Err (err-same (ap (λ (z : Result ℕ Refusal × Store). z .0) e))
-
-  -- a node that is refused over children that are bound
-  over-refused : (g : ℕ → Expr) (at : ℕ) (x : UnboundNode) → Fit text at x → (s s1 : Store) (js : List ℕ)
-      → Bound-all m g (unbound-kids x) s s1 js → (r : Refusal) (later : Store)
-      → bind-over m q text at x js s1 ≡ (Err r, later)
-      → Refused m s1 at (head-of text (rows q) (x .function)) (new-bytes (asked q text (x .function)))
-      (padded js (x .«child_count»)) (x .«child_count») (shape-tree g (shape text (seen q x))) r
-  over-refused g at x fit s s1 js all r later e =
-      let w = asked q text (x .function) in
-      let n = x .«child_count» in
-      let ks = unbound-kids x in
-      let h = head-of text (rows q) (x .function) in
-      let same : new-head w ≡ h = head-asked q text (x .function) in
-      let kids : length ks ≡ n = kids-long text at x fit in
-      let long : length js ≡ n = all .long ∙ kids in
-      let tree-of : head-counts m (new-head w) n ≡ true
-      → shape-tree (tree s1) (shaped (new-head w) (named (padded js n) n)) ≡ shape-tree g (shaped h ks) =
-      λ c.
-      ap (λ (z : List ℕ). shape-tree (tree s1) (shaped (new-head w) z)) (padded-back js n long (fit .few))
-      ∙ ap (λ (z : Head). shape-tree (tree s1) (shaped z js)) same
-      ∙ heads-agree m (tree s1) g h js ks (all .long)
-      (ap (head-counts m h) kids ∙ ap (λ (z : Head). head-counts m z n) (sym same) ∙ c) (all .trees-are) in
-      subst
-      (λ (z : Head).
-      Refused m s1 at z (new-bytes w) (padded js n) n (shape-tree g (shape text (seen q x))) r)
-      same
-      (has-cause m s1 (all .kept .sound) (plan-at at w (padded js n) n s1) (padded-long js n long (fit .few))
-      (shape-tree g (shape text (seen q x))) tree-of r
-      (entered-refused (new-bytes w) s1 (build m (plan-at at w (padded js n) n s1) s1) r later e))
-
   -- the tree of the newest node
   newest-tree : (x : UnboundNode) (xs : List UnboundNode) (n : ℕ) → n ≡ length xs
       → trees-in m q text (x ∷ xs) n ≡ shape-tree (trees-in m q text xs) (shape text (seen q x))
@@ -151,22 +49,22 @@ module _ (m : Meaning) (q : ℕ) (text : List ℕ) where
   module _ (x : UnboundNode) (xs : List UnboundNode) (n : ℕ) (i : n ≡ length xs) (fit : Fit text n x) (s : Store)
       (r : Refusal) where
     -- a child's tree was refused
-    in-child : Stopped-child m (trees-in m q text xs) (unbound-kids x) s (Halts xs) r → Halted (x ∷ xs) n s r
-    unfolding lifted
+    in-child : Stopped-child m (trees-in m q text xs) (unbound-kids x) s (Halts m q text xs) r → Halted m q text (x ∷ xs) n s r
     in-child c =
-        let below : c .child < n = one-below n (unbound-kids x) (c .child) (fit .older) (c .one-of) in
+        let below : c .child < n = one-below m q text n (unbound-kids x) (c .child) (fit .older) (c .one-of) in
         let inner = c .stops (omega (arith, below, i)) in
         let large = newest-size x xs n i fit in
         record {
-          halt = lifted x xs s (c .store) r (c .kept) (inner .halt);
+          halt = lifted m q text x xs s (c .store) r (c .kept) (inner .halt);
           stands =
-              under x (unbound-newest x xs n i) (c .one-of) (stands-still x xs (c .child) (inner .halt .at) (inner .stands));
+              under x (unbound-newest x xs n i) (c .one-of)
+              (stands-still x xs (c .child) (inner .halt .at) (inner .stands));
           room = omega (arith, inner .room, c .room, large);
         }
 
     -- the node itself was refused
     in-node : (s1 : Store) (js : List ℕ) → Bound-all m (trees-in m q text xs) (unbound-kids x) s s1 js
-        → (later : Store) → bind-over m q text n x js s1 ≡ (Err r, later) → Halted (x ∷ xs) n s r
+        → (later : Store) → bind-over m q text n x js s1 ≡ (Err r, later) → Halted m q text (x ∷ xs) n s r
     in-node s1 js all later e =
         let large = newest-size x xs n i fit in
         record {
@@ -185,7 +83,7 @@ module _ (m : Meaning) (q : ℕ) (text : List ℕ) where
                 Refused m s1 n (head-of text (rows q) (x .function)) (new-bytes (asked q text (x .function)))
                 (padded js (x .«child_count»)) (x .«child_count») z r)
                 (sym (newest-tree x xs n i))
-                (over-refused (trees-in m q text xs) n x fit s s1 js all r later e);
+                (over-refused m q text (trees-in m q text xs) n x fit s s1 js all r later e);
           };
           stands = itself;
           room = omega (arith, all .as-many, large);
@@ -193,24 +91,23 @@ module _ (m : Meaning) (q : ℕ) (text : List ℕ) where
 
   -- an older node's tree was refused
   in-older : (x : UnboundNode) (xs : List UnboundNode) (n : ℕ) (s : Store) → Sound m s → (r : Refusal)
-      → n < length xs → Halted xs n s r → Halted (x ∷ xs) n s r
-  unfolding lifted
+      → n < length xs → Halted m q text xs n s r → Halted m q text (x ∷ xs) n s r
   in-older x xs n s sound r l h =
-      let same = older-tree x xs n l in
+      let same = older-tree m q text x xs n l in
       record {
-        halt = lifted x xs s s r (record { sound = sound; grow = λ from g. g }) (h .halt);
+        halt = lifted m q text x xs s s r (record { sound = sound; grow = λ from g. g }) (h .halt);
         stands = stands-still x xs n (h .halt .at) (h .stands);
         room = subst (λ (e : Expr). length (h .halt .store .nodes) < length (s .nodes) + size e) (sym same) (h .room);
       }
 
-  pub halts : (xs : List UnboundNode) → Fits text xs → Stops m (bind-among m q text xs) (Halts xs)
+  pub halts : (xs : List UnboundNode) → Fits text xs → Stops m (bind-among m q text xs) (Halts m q text xs)
   unfolding bind-among
   halts [] fits n s sound r later e l = absurd (omega arith)
   halts (x ∷ xs) fits n s sound r later e l = go (halts xs (fits .1)) (eqb n (length xs)) refl e
     where
-      go : Stops m (bind-among m q text xs) (Halts xs) → (b : Bool) → eqb n (length xs) ≡ b
+      go : Stops m (bind-among m q text xs) (Halts m q text xs) → (b : Bool) → eqb n (length xs) ≡ b
           → cond b (onward (bind-all (bind-among m q text xs) (unbound-kids x) s) (bind-over m q text n x))
-          (bind-among m q text xs n s) ≡ (Err r, later) → Halted (x ∷ xs) n s r
+          (bind-among m q text xs n s) ≡ (Err r, later) → Halted m q text (x ∷ xs) n s r
       go stop true a h =
           let i : n ≡ length xs = eqb-true n (length xs) a in
           let fit : Fit text n x = subst (λ (z : ℕ). Fit text z x) (sym i) (fits .0) in
@@ -219,7 +116,7 @@ module _ (m : Meaning) (q : ℕ) (text : List ℕ) where
           elim (onward-err (bind-all f (unbound-kids x) s) (bind-over m q text n x) r later h) [
             | at-first c ↦
                 in-child x xs n i fit s r
-                (all-stopped m f (trees-in m q text xs) one (Halts xs) stop (unbound-kids x) s sound r later c)
+                (all-stopped m f (trees-in m q text xs) one (Halts m q text xs) stop (unbound-kids x) s sound r later c)
             | at-second js s1 c d ↦
                 in-node x xs n i fit s r s1 js
                 (all-granted m f (trees-in m q text xs) one (unbound-kids x) s sound js s1 c) later d

@@ -26,7 +26,8 @@ use Rattle.model.specs.Shapes.{Head, join, over, shape, shaped, trees-by, shap
 use Rattle.model.specs.Making.{head-counts}
 use Rattle.model.specs.Soundness.{Below}
 use Rattle.model.specs.Unbound.{UnboundNode, UnboundStore, unbound-at, unbound-kids, seen, tree-for}
-use Rattle.model.specs.UnboundSoundness.{any-host, Sound-unbound, Sound-unbound-node}
+use Rattle.model.specs.UnboundMaking.{any-host}
+use Rattle.model.specs.UnboundSoundness.{Sound-unbound, Sound-unbound-node}
 use Rattle.model.specs.LawsOfRefusedBinding.{One-of, Stands-in, itself, under, head-for, Cause, unbindable}
 use Rattle.model.specs.LawsOfRefusedBinding.{Refused-binding, no-node, no-schema, work-short, at-node}
 use Rattle.model.specs.LawsOfRefusedBinding.{Types-refuse-no-tree-that-binds}

@@ -16,6 +16,11 @@ pub mod BindingGranted
 pub mod UnboundNumbers
 pub mod BindingLaws
 pub mod BindingStopped
+pub mod BindingRefused
 pub mod BindingHalts
 pub mod BindingCauses
 pub mod BindingTypes
+pub mod UnboundPlans
+pub mod UnboundGrowing
+pub mod UnboundStepping
+pub mod UnboundGranting

@@ -16,7 +16,7 @@ use Rattle.model.specs.Unbound.{UnboundStore, tree-for}
 use Rattle.model.specs.UnboundSoundness.{Sound-unbound}
 use Rattle.model.specs.BindingTrees.{bind}
 
--- a law of bindings that are granted, of a sound unbound arena into a sound store: P of tree, store, later store, answer
+-- a law of granted bindings of a sound unbound arena into a sound store: of the tree, both stores and the answer
 abbrev pub Of-granted : (Meaning → Expr → Store → Store → ℕ → Type 0) → Type 0
 Of-granted P =
     (m : Meaning) (u : UnboundStore) → Sound-unbound u

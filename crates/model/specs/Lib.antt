@@ -8,7 +8,9 @@ pub mod Steps
 pub mod LawsOfMaking
 pub mod LawsOfRefusing
 pub mod Unbound
-pub mod BindingTrees
+pub mod UnboundMaking
 pub mod UnboundSoundness
+pub mod BindingTrees
 pub mod LawsOfBinding
 pub mod LawsOfRefusedBinding
+pub mod LawsOfUnbound

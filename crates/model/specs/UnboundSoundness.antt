@@ -3,24 +3,14 @@ use mathlib.Core.Path.{_≡_}
 use mathlib.Core.Bool.{true}
 use Prim.Native.Nat.{ℕ, _≤_}
 use lib.ListN.{length}
-use Rattle.std.specs.declared.option.Option.the-variants.{Some, None}
+use Rattle.std.specs.declared.option.Option.the-variants.{Some}
 use Rattle.vocabulary.specs.Nodes.{padded, textOf}
-use Rattle.meaning.specs.Hosts.{Meaning, fails, nothing}
 use Rattle.meaning.specs.Trees.{depth, size}
 use Rattle.model.specs.Shapes.{head-of}
 use Rattle.model.specs.Making.{head-counts}
 use Rattle.model.specs.Soundness.{Below, Ends-within}
 use Rattle.model.specs.Unbound.{UnboundNode, UnboundStore, unbound-at, unbound-kids, rows, tree-for}
-
--- the host of unbound trees, which has every code and takes any count
-abbrev pub any-host : Meaning
-any-host = record {
-  has = λ c. true;
-  takes = λ c n. true;
-  types = λ c ts. None;
-  gives = λ c vs. fails 0;
-  rule = λ c ts vs. nothing;
-}
+use Rattle.model.specs.UnboundMaking.{any-host}
 
 -- the record x of the number n is sound, read against the schema q
 pub record Sound-unbound-node (q : ℕ) (u : UnboundStore) (n : ℕ) (x : UnboundNode) : Type 0 where

@@ -6,6 +6,9 @@ ghost use Rattle.model.specs.LawsOfRefusing.{Making-refuses-exactly, Rebuildin
 ghost use Rattle.model.specs.LawsOfBinding.{Bound-as-asked, Binding-keeps-the-store, One-node-for-each-place};
 ghost use Rattle.model.specs.LawsOfRefusedBinding.{Refused-bindings-change-nothing, Binding-refuses-for-causes};
 ghost use Rattle.model.specs.LawsOfRefusedBinding.{Types-refuse-no-tree-that-binds};
+ghost use Rattle.model.specs.LawsOfUnbound.{Empty-unbound-is-sound, Unbound-steps-keep-sound, Unbound-nodes-stay};
+ghost use Rattle.model.specs.LawsOfUnbound.{Unbound-refusals-change-nothing, Unbound-made-as-asked};
+ghost use Rattle.model.specs.LawsOfUnbound.{Unbound-rebuilt-over-others};
 
 /// The arena as it is opened is sound, and making and rebuilding keep it so.
 pub fn stores_stay_sound() -> u8
@@ -92,6 +95,24 @@ pub fn binding_refuses_for_causes() -> u8
     ensures leaves { λ _. ⌜ Refused-bindings-change-nothing ⌝ }
     ensures causes { λ _. ⌜ Binding-refuses-for-causes ⌝ }
     ensures types { λ _. ⌜ Types-refuse-no-tree-that-binds ⌝ }
+{
+    0
+}
+
+/// An arena of unbound trees is sound as it is opened, and making and rebuilding keep it so; what is made stays.
+pub fn unbound_nodes_stay() -> u8
+    ensures opened { λ _. ⌜ Empty-unbound-is-sound ⌝ }
+    ensures kept { λ _. ⌜ Unbound-steps-keep-sound ⌝ }
+    ensures stay { λ _. ⌜ Unbound-nodes-stay ⌝ }
+    ensures leaves { λ _. ⌜ Unbound-refusals-change-nothing ⌝ }
+{
+    0
+}
+
+/// What is made unbound is the function asked for over the children's trees, and what is rebuilt the old one.
+pub fn unbound_made_as_asked() -> u8
+    ensures made { λ _. ⌜ Unbound-made-as-asked ⌝ }
+    ensures rebuilt { λ _. ⌜ Unbound-rebuilt-over-others ⌝ }
 {
     0
 }
