@@ -11,3 +11,16 @@ pub mod Missing
 pub mod Refusing
 pub mod Causes
 pub mod Forward
+pub mod BindingSteps
+pub mod BindingGranted
+pub mod UnboundNumbers
+pub mod BindingLaws
+pub mod BindingStopped
+pub mod BindingRefused
+pub mod BindingHalts
+pub mod BindingCauses
+pub mod BindingTypes
+pub mod UnboundPlans
+pub mod UnboundGrowing
+pub mod UnboundStepping
+pub mod UnboundGranting

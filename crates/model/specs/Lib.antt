@@ -7,3 +7,10 @@ pub mod Soundness
 pub mod Steps
 pub mod LawsOfMaking
 pub mod LawsOfRefusing
+pub mod Unbound
+pub mod UnboundMaking
+pub mod UnboundSoundness
+pub mod BindingTrees
+pub mod LawsOfBinding
+pub mod LawsOfRefusedBinding
+pub mod LawsOfUnbound
