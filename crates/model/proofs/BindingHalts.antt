@@ -49,7 +49,8 @@ module _ (m : Meaning) (q : ℕ) (text : List ℕ) where
   module _ (x : UnboundNode) (xs : List UnboundNode) (n : ℕ) (i : n ≡ length xs) (fit : Fit text n x) (s : Store)
       (r : Refusal) where
     -- a child's tree was refused
-    in-child : Stopped-child m (trees-in m q text xs) (unbound-kids x) s (Halts m q text xs) r → Halted m q text (x ∷ xs) n s r
+    in-child : Stopped-child m (trees-in m q text xs) (unbound-kids x) s (Halts m q text xs) r
+        → Halted m q text (x ∷ xs) n s r
     in-child c =
         let below : c .child < n = one-below m q text n (unbound-kids x) (c .child) (fit .older) (c .one-of) in
         let inner = c .stops (omega (arith, below, i)) in

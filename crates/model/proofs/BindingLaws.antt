@@ -6,21 +6,26 @@ use Prim.Native.Nat.{ℕ}
 use native.Mathlib.Omega.{arith}
 use lib.Dec.{leb, ltb}
 use lib.ListN.{length}
+use Rattle.std.proofs.shelf.Tests.{le-leb, cond-true}
 use Rattle.std.specs.declared.option.Option.the-variants.{Some}
 use Rattle.std.specs.declared.result.Result.{Result}
 use Rattle.std.specs.declared.result.Result.the-variants.{Ok, Err}
+use Rattle.vocabulary.specs.declared.nodes.Node.{Node}
 use Rattle.vocabulary.specs.declared.refusals.Refusal.{Refusal}
 use Rattle.meaning.specs.Hosts.{Meaning}
 use Rattle.meaning.specs.Columns.{Schemas}
 use Rattle.meaning.specs.Typing.{typed}
 use Rattle.model.specs.Stores.{Store}
+use Rattle.model.specs.Wanted.{New, root, literal, get-item, cast, binary, between, host, new-bytes}
+use Rattle.model.specs.Making.{build, entered, schema-first, new-plan}
 use Rattle.model.specs.Soundness.{Sound}
 use Rattle.model.specs.LawsOfMaking.{Grows}
+use Rattle.model.specs.LawsOfRefusing.{Schema-there}
 use Rattle.model.specs.Unbound.{UnboundNode, UnboundStore, unbound-among, tree-for}
 use Rattle.model.specs.UnboundSoundness.{Sound-unbound}
 use Rattle.model.specs.BindingTrees.{first, all-or-nothing, bind-among, bind}
 use Rattle.model.specs.LawsOfBinding.{Bound-tree, Bound-as-asked, Kept-store, Binding-keeps-the-store}
-use Rattle.model.specs.LawsOfBinding.{Each-place, One-node-for-each-place}
+use Rattle.model.specs.LawsOfBinding.{Each-place, One-node-for-each-place, Binding-makes-as-making}
 use Rattle.model.proofs.Children.{err-ok}
 use Rattle.model.proofs.Numbers.{node-below, node-there}
 use Rattle.model.proofs.UnboundNumbers.{unbound-older, unbound-newest, unbound-below}
@@ -107,3 +112,17 @@ binding-keeps-the-store m u fine s sound n q work k e = store-kept m u fine s so
 
 pub one-node-for-each-place : One-node-for-each-place
 one-node-for-each-place m u fine s sound n q work k e = each-place m u fine s sound n q work k e
+
+-- the schema of a Root that is one of 0 to 7 is not refused
+passes : (w : New) (a : Result Node Refusal) → Schema-there w → a ≡ schema-first w a
+passes (root q) a h = sym (cond-true (leb q 7) a _ (le-leb q 7 h))
+passes (literal t v) a h = refl
+passes (get-item name) a h = refl
+passes (cast t) a h = refl
+passes (binary o) a h = refl
+passes (between o) a h = refl
+passes (host c) a h = refl
+
+pub binding-makes-as-making : Binding-makes-as-making
+binding-makes-as-making m w cs n s h =
+    ap (entered (new-bytes w) s) (passes w (build m (new-plan w cs n s) s) h)

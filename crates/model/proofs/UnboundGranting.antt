@@ -88,7 +88,8 @@ module _ (u : UnboundStore) (sound : Sound-unbound u) (old : ℕ) (x : UnboundNo
             ap (tree-for q (unbound-grown (untyped y) [] u)) (sym number)
             ∙ planned-for u sound (old-plan old (seen 0 x) cs n (against 0 u))
             (old-honest-unbound u old x cs n (sound .each 0 old x e .ends)) eight y b q
-            ∙ ap (λ (z : Head). shape-tree (tree-for q u) (shaped z (named cs n))) (head-again q (u .text) (x .function))
+            ∙ ap (λ (z : Head). shape-tree (tree-for q u) (shaped z (named cs n)))
+            (head-again q (u .text) (x .function))
             ∙ others-for q (same-takes q 0 (u .text) (u .text) (x .function) n ∙ b .counted);
         text-is = append-nil (u .text);
         new-or-itself = inl (sym number, refl);

@@ -1,4 +1,5 @@
 -- The laws of binding.
+use mathlib.Core.List.{List}
 use mathlib.Core.Path.{_≡_}
 use Prim.Native.Nat.{ℕ, suc, _+_}
 use lib.ListN.{length}
@@ -10,11 +11,14 @@ use Rattle.meaning.specs.Trees.{Expr, size}
 use Rattle.meaning.specs.Typing.{typed}
 use Rattle.model.specs.Stores.{Store, node-at}
 use Rattle.model.specs.Shapes.{tree}
+use Rattle.model.specs.Wanted.{New}
+use Rattle.model.specs.Making.{make}
 use Rattle.model.specs.Soundness.{Sound}
 use Rattle.model.specs.LawsOfMaking.{Grows}
+use Rattle.model.specs.LawsOfRefusing.{Schema-there}
 use Rattle.model.specs.Unbound.{UnboundStore, tree-for}
 use Rattle.model.specs.UnboundSoundness.{Sound-unbound}
-use Rattle.model.specs.BindingTrees.{bind}
+use Rattle.model.specs.BindingTrees.{make-at, bind}
 
 -- a law of granted bindings of a sound unbound arena into a sound store: of the tree, both stores and the answer
 abbrev pub Of-granted : (Meaning → Expr → Store → Store → ℕ → Type 0) → Type 0
@@ -52,3 +56,9 @@ pub record Each-place (m : Meaning) (e : Expr) (s later : Store) (k : ℕ) : Typ
 
 abbrev pub One-node-for-each-place : Type 0
 One-node-for-each-place = Of-granted Each-place
+
+-- each node of the tree is made as making makes one, but for the place that a refusal names
+abbrev pub Binding-makes-as-making : Type 0
+Binding-makes-as-making =
+    (m : Meaning) (w : New) (cs : List ℕ) (n : ℕ) (s : Store) → Schema-there w
+    → make-at m 65535 w cs n s ≡ make m w cs n s

@@ -1,10 +1,11 @@
-//! The laws of making, rebuilding and binding.
+//! The laws of making, rebuilding and binding, and of unbound trees.
 ghost use Rattle.model.specs.LawsOfMaking.{Empty-is-sound, Steps-keep-sound, Steps-only-add, Nodes-stay};
 ghost use Rattle.model.specs.LawsOfMaking.{Trees-by-shapes, Records-lie-forward, Refusals-change-nothing};
 ghost use Rattle.model.specs.LawsOfMaking.{Made-as-asked, Rebuilt-over-others};
 ghost use Rattle.model.specs.LawsOfRefusing.{Making-refuses-exactly, Rebuilding-refuses-exactly};
 ghost use Rattle.model.specs.LawsOfBinding.{Bound-as-asked, Binding-keeps-the-store, One-node-for-each-place};
 ghost use Rattle.model.specs.LawsOfRefusedBinding.{Refused-bindings-change-nothing, Binding-refuses-for-causes};
+ghost use Rattle.model.specs.LawsOfBinding.{Binding-makes-as-making};
 ghost use Rattle.model.specs.LawsOfRefusedBinding.{Types-refuse-no-tree-that-binds};
 ghost use Rattle.model.specs.LawsOfUnbound.{Empty-unbound-is-sound, Unbound-steps-keep-sound, Unbound-nodes-stay};
 ghost use Rattle.model.specs.LawsOfUnbound.{Unbound-refusals-change-nothing, Unbound-made-as-asked};
@@ -71,7 +72,8 @@ pub fn refused_for_their_causes() -> u8
 
 /// A bound node's tree is the unbound tree against the schema, and its record has the type of that tree.
 pub fn bound_as_asked() -> u8
-    ensures { λ _. ⌜ Bound-as-asked ⌝ }
+    ensures bound { λ _. ⌜ Bound-as-asked ⌝ }
+    ensures made { λ _. ⌜ Binding-makes-as-making ⌝ }
 {
     0
 }
