@@ -1,1 +1,3 @@
+pub mod Looking
 pub mod Numbered
+pub mod Sought
