@@ -1,3 +1,6 @@
+pub mod Drafts
+pub mod Families
+pub mod Heads
 pub mod Looking
 pub mod Numbered
 pub mod Sought
