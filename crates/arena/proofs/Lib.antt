@@ -4,3 +4,4 @@ pub mod Heads
 pub mod Looking
 pub mod Numbered
 pub mod Sought
+pub mod Stands

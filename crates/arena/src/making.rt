@@ -1,7 +1,14 @@
+ghost use mathlib.Core.Bool.{true};
 ghost use mathlib.Core.Path.{_≡_};
+ghost use Prim.Native.Nat.{_+_, _<_, _≤_};
+ghost use lib.ListN.{length};
+ghost use Rattle.std.specs.Of.Vec.{vec-len};
+ghost use Rattle.model.specs.Making.{make};
+ghost use Rattle.model.specs.Stores.{grown};
 ghost use Rattle.arena.specs.Asked.{newOf};
 ghost use Rattle.arena.specs.Drafting.{bound-by, bound-over, noted, schema-there, drafted};
 ghost use Rattle.arena.specs.Opened.{store};
+ghost use Rattle.arena.specs.Standing.{stands};
 use crate::arena::Arena;
 use crate::asking::NewFunction;
 use crate::bounds::Bound;
@@ -17,6 +24,55 @@ use vocabulary::refusals::RefusalFromBinding;
 use vocabulary::refusals::RefusalFromMemory;
 
 impl<H: Host> Arena<H> {
+    /// Makes a node over the first `count` of the children, and answers its number. Its text goes behind the text.
+    pub fn try_new(
+        &mut self,
+        function: NewFunction<'_>,
+        children: [u32; 8],
+        count: u8,
+    ) -> Result<u32, Refusal>
+        ensures answer { λ r. ⌜ r ≡ make (H·Host .meaning (now (self .entry) .host)) (newOf (function .entry)) children count
+            (store (now (self .entry) .schemas) (now (self .entry) .memory)) .0 ⌝ }
+        ensures after { λ _. ⌜ store (now (self .exit) .schemas) (now (self .exit) .memory)
+            ≡ make (H·Host .meaning (now (self .entry) .host)) (newOf (function .entry)) children count
+            (store (now (self .entry) .schemas) (now (self .entry) .memory)) .1 ⌝ }
+        ensures host { λ _. ⌜ now (self .exit) .host ≡ now (self .entry) .host ⌝ }
+    {
+        self.make(function, children, count)
+    }
+
+    /// The same, by a draft that is entered.
+    fn make(
+        &mut self,
+        function: NewFunction<'_>,
+        children: [u32; 8],
+        count: u8,
+    ) -> Result<u32, Refusal>
+        ensures answer { λ r. ⌜ r ≡ make (H·Host .meaning (now (self .entry) .host)) (newOf (function .entry)) children count
+            (store (now (self .entry) .schemas) (now (self .entry) .memory)) .0 ⌝ }
+        ensures after { λ _. ⌜ store (now (self .exit) .schemas) (now (self .exit) .memory)
+            ≡ make (H·Host .meaning (now (self .entry) .host)) (newOf (function .entry)) children count
+            (store (now (self .entry) .schemas) (now (self .entry) .memory)) .1 ⌝ }
+        ensures host { λ _. ⌜ now (self .exit) .host ≡ now (self .entry) .host ⌝ }
+    {
+        let node = self.draft(function, children, count)?;
+        Ok(self.enter(node, function.bytes()))
+    }
+
+    /// Records a node, with bytes behind the text, and answers its number.
+    pub(crate) fn enter(&mut self, node: Node, more: &[u8]) -> u32
+        requires room { ⌜ vec-len (now self .memory .nodes) < now self .memory .records ⌝ }
+        requires text_room { ⌜ vec-len (now self .memory .text) + length (now more) ≤ now self .memory .bytes ⌝ }
+        requires standing { ⌜ stands (vec-len (now self .memory .text) + length (now more)) (vec-len (now self .memory .nodes)) node
+            ≡ true ⌝ }
+        ensures number { λ r. ⌜ r ≡ length (store (now (self .entry) .schemas) (now (self .entry) .memory) .nodes) ⌝ }
+        ensures after { λ _. ⌜ store (now (self .exit) .schemas) (now (self .exit) .memory)
+            ≡ grown node (now (more .entry)) (store (now (self .entry) .schemas) (now (self .entry) .memory)) ⌝ }
+        ensures host { λ _. ⌜ now (self .exit) .host ≡ now (self .entry) .host ⌝ }
+    {
+        self.memory.push(node, more)
+    }
+
     /// The record of a new node, whose place in a refusal is 65,535.
     fn draft(
         &self,

@@ -36,8 +36,8 @@ impl Memory {
 
     /// Adds a record, with bytes behind the text, and answers its number.
     pub(crate) fn push(&mut self, node: Node, more: &[u8]) -> u32
-        requires record { ⌜ vec-len (now self .nodes) < now self .records ⌝ }
-        requires text { ⌜ vec-len (now self .text) + length (now more) ≤ now self .bytes ⌝ }
+        requires room { ⌜ vec-len (now self .nodes) < now self .records ⌝ }
+        requires text_room { ⌜ vec-len (now self .text) + length (now more) ≤ now self .bytes ⌝ }
         ensures number { λ r. ⌜ r ≡ vec-len (now (self .entry) .nodes) ⌝ }
         ensures nodes { λ _. ⌜ vec-items (now (self .exit) .nodes) ≡ vec-items (now (self .entry) .nodes) ++ (node ∷ []) ⌝ }
         ensures text { λ _. ⌜ vec-items (now (self .exit) .text) ≡ vec-items (now (self .entry) .text) ++ now (more .entry) ⌝ }
