@@ -1,4 +1,5 @@
 ghost use mathlib.Core.Path.{_≡_};
+ghost use lib.ListN.{length};
 ghost use Rattle.std.specs.Results.{mapped};
 ghost use Rattle.std.specs.declared.result.Result.the-variants.{Ok};
 ghost use Rattle.vocabulary.specs.declared.refusals.Refusal.the-variants.{Memory};
@@ -46,6 +47,15 @@ impl Schemas {
     {
         let found = self.at(schema)?;
         Ok(found)
+    }
+
+    /// How many schemas there are, those without columns included.
+    pub fn len(&self) -> usize
+        ensures value { λ r. ⌜ r ≡ length (allFields (now (self .entry))) ⌝ }
+        ensures eight { λ r. ⌜ r ≡ 8 ⌝ }
+    {
+        let table = &self.table[0..];
+        table.len()
     }
 
     /// The place and the type of a schema's column of that name.

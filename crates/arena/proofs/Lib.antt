@@ -1,0 +1,7 @@
+pub mod Drafts
+pub mod Families
+pub mod Heads
+pub mod Looking
+pub mod Numbered
+pub mod Sought
+pub mod Stands

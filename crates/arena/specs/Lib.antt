@@ -1,0 +1,9 @@
+pub mod Asked
+pub mod Binding
+pub mod Drafting
+pub mod Opened
+pub mod Placing
+pub mod Reading
+pub mod Reserving
+pub mod Standing
+pub mod Surveying
