@@ -24,7 +24,9 @@ returns-in-Break-old g c =
     let m = g .H·Host .meaning (c .args .self .now .host) in
     let s = store (c .args .self .now .schemas) (c .args .self .now .memory) in
     let k = c .args .node in
-    let (none, why) = missing (node-at s k) (c .in-Break-old .field-0 .0) (NoSuchNode k) (c .in-Break-old .ensures tt) in
+    let (none, why) =
+    missing (node-at s k) (c .in-Break-old .field-0 .0) (NoSuchNode k) (c .in-Break-old .ensures tt)
+    in
     let (e, is, from) = err-from-errBy (c .from-residual .result) (c .from-residual .ensures .1) in
     let refused = ap (λ (o : Option Node). rebuilt m k o (c .args .children) (c .args .count) s) none in
     record {
