@@ -31,8 +31,8 @@ use Rattle.schemas.specs.declared.tables.Schemas.{Schemas}
 use Rattle.meaning.specs.Comparing.{bytes-of}
 use Rattle.meaning.specs.Hosts.{Meaning}
 use Rattle.meaning.specs.Values.{Value, null, bool, signed, unsigned, text, ext, whole}
-use Rattle.model.specs.Making.{Plan, named, looked-up, check, types-of, deepest, total-size, over-children, bound, build}
-use Rattle.model.specs.Making.{head-known, head-counts, head-type, schema-first, new-plan}
+use Rattle.model.specs.Making.{Plan, named, looked-up, check, types-of, deepest, total-size}
+use Rattle.model.specs.Making.{over-children, bound, build, head-known, head-counts, head-type, schema-first, new-plan}
 use Rattle.model.specs.Shapes.{Head}
 use Rattle.model.specs.Stores.{Store}
 use Rattle.model.specs.Wanted.{New, root, literal, get-item, cast, binary, between, host}
@@ -68,7 +68,8 @@ room-is ss h place more =
 abbrev chain : ℕ → (Span → Function) → List ℕ → ℕ
     → Bool → Bool → Option DType → ℕ → ℕ → Result Span MemoryRefusal → Result Node Refusal
 chain place f cs n known counts o d z room =
-    then (in-binding (cond known (cond counts (Ok (tt {0})) (Err (WrongChildCount place))) (Err (NoSuchCode place))) (λ _.
+    then (in-binding
+    (cond known (cond counts (Ok (tt {0})) (Err (WrongChildCount place))) (Err (NoSuchCode place))) (λ _.
     in-binding (okOr o (DoesNotBind place)) (λ t.
     in-binding (deeper place d) (λ e.
     in-binding (larger place z) (λ y.

@@ -24,7 +24,7 @@ pub there : {X E : Type 0} (o : Option X) (x : X) (e : E) → Ok x ≡ okOr o e 
 there None x e h = err-ok e x (sym h)
 there (Some y) x e h = ap Some (sym (ok-same h))
 
-missing : {X E : Type 0} (o : Option X) (d e : E) → Err d ≡ okOr o e → (o ≡ None) × (d ≡ e)
+pub missing : {X E : Type 0} (o : Option X) (d e : E) → Err d ≡ okOr o e → (o ≡ None) × (d ≡ e)
 missing None d e h = (refl, cc)
 missing (Some y) d e h = err-ok d y h
 

@@ -4,6 +4,7 @@ pub mod Drafting
 pub mod Opened
 pub mod Placing
 pub mod Reading
+pub mod Rebuilding
 pub mod Reserving
 pub mod Standing
 pub mod Surveying

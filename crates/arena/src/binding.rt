@@ -4,7 +4,8 @@ ghost use Rattle.meaning.specs.Columns.{column-type};
 ghost use Rattle.meaning.specs.Typing.{item-type};
 ghost use Rattle.meaning.specs.Values.{fits};
 ghost use Rattle.arena.specs.Asked.{newOf, valueOf};
-ghost use Rattle.arena.specs.Binding.{asked-known, asked-counts, asked-type, counted, bound-type, literal-type, type-found};
+ghost use Rattle.arena.specs.Binding.{asked-known, asked-counts, asked-type, literal-type};
+ghost use Rattle.arena.specs.Binding.{counted, bound-type, type-found};
 use crate::arena::Arena;
 use crate::asking::NewFunction;
 use crate::asking::NewLiteral;
@@ -30,7 +31,8 @@ impl<H: Host> Arena<H> {
         asked: &NewFunction<'_>,
         count: u8,
     ) -> Result<(), BindingRefusal>
-        ensures { λ r. ⌜ r ≡ counted (H·Host .meaning (now (self .entry) .host)) place (newOf (now (asked .entry))) count ⌝ }
+        ensures { λ r. ⌜ r ≡ counted (H·Host .meaning (now (self .entry) .host)) place
+            (newOf (now (asked .entry))) count ⌝ }
     {
         if !self.is_known(asked) {
             return Err(BindingRefusal::NoSuchCode(place));
@@ -53,7 +55,8 @@ impl<H: Host> Arena<H> {
 
     /// Whether the function takes so many children.
     fn takes(&self, asked: &NewFunction<'_>, count: u8) -> bool
-        ensures { λ r. ⌜ r ≡ asked-counts (H·Host .meaning (now (self .entry) .host)) (newOf (now (asked .entry))) count ⌝ }
+        ensures { λ r. ⌜ r ≡ asked-counts (H·Host .meaning (now (self .entry) .host))
+            (newOf (now (asked .entry))) count ⌝ }
     {
         match *asked {
             NewFunction::Root(_) | NewFunction::Literal(..) => count == 0,
@@ -71,7 +74,8 @@ impl<H: Host> Arena<H> {
         asked: &NewFunction<'_>,
         types: &[DType],
     ) -> Result<DType, BindingRefusal>
-        ensures { λ r. ⌜ r ≡ bound-type (H·Host .meaning (now (self .entry) .host)) (allFields (now (self .entry) .schemas)) place
+        ensures { λ r. ⌜ r ≡ bound-type (H·Host .meaning (now (self .entry) .host))
+            (allFields (now (self .entry) .schemas)) place
             (newOf (now (asked .entry))) (now (types .entry)) ⌝ }
     {
         self.type_of(asked, types)
@@ -80,8 +84,8 @@ impl<H: Host> Arena<H> {
 
     /// The type of the function over children of those types, if it binds.
     fn type_of(&self, asked: &NewFunction<'_>, types: &[DType]) -> Option<DType>
-        ensures { λ r. ⌜ r ≡ asked-type (H·Host .meaning (now (self .entry) .host)) (allFields (now (self .entry) .schemas))
-            (newOf (now (asked .entry))) (now (types .entry)) ⌝ }
+        ensures { λ r. ⌜ r ≡ asked-type (H·Host .meaning (now (self .entry) .host))
+            (allFields (now (self .entry) .schemas)) (newOf (now (asked .entry))) (now (types .entry)) ⌝ }
     {
         match (*asked, types) {
             (NewFunction::Root(schema), []) => Some(DType::new(Kind::Row(schema), false)),

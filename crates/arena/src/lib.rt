@@ -8,6 +8,7 @@ pub mod memory;
 pub mod opening;
 pub mod placing;
 pub mod reading;
+pub mod rebuilding;
 pub mod records;
 pub mod reserving;
 pub mod survey;

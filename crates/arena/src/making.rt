@@ -31,8 +31,8 @@ impl<H: Host> Arena<H> {
         children: [u32; 8],
         count: u8,
     ) -> Result<u32, Refusal>
-        ensures answer { λ r. ⌜ r ≡ make (H·Host .meaning (now (self .entry) .host)) (newOf (function .entry)) children count
-            (store (now (self .entry) .schemas) (now (self .entry) .memory)) .0 ⌝ }
+        ensures answer { λ r. ⌜ r ≡ make (H·Host .meaning (now (self .entry) .host)) (newOf (function .entry))
+            children count (store (now (self .entry) .schemas) (now (self .entry) .memory)) .0 ⌝ }
         ensures after { λ _. ⌜ store (now (self .exit) .schemas) (now (self .exit) .memory)
             ≡ make (H·Host .meaning (now (self .entry) .host)) (newOf (function .entry)) children count
             (store (now (self .entry) .schemas) (now (self .entry) .memory)) .1 ⌝ }
@@ -48,8 +48,8 @@ impl<H: Host> Arena<H> {
         children: [u32; 8],
         count: u8,
     ) -> Result<u32, Refusal>
-        ensures answer { λ r. ⌜ r ≡ make (H·Host .meaning (now (self .entry) .host)) (newOf (function .entry)) children count
-            (store (now (self .entry) .schemas) (now (self .entry) .memory)) .0 ⌝ }
+        ensures answer { λ r. ⌜ r ≡ make (H·Host .meaning (now (self .entry) .host)) (newOf (function .entry))
+            children count (store (now (self .entry) .schemas) (now (self .entry) .memory)) .0 ⌝ }
         ensures after { λ _. ⌜ store (now (self .exit) .schemas) (now (self .exit) .memory)
             ≡ make (H·Host .meaning (now (self .entry) .host)) (newOf (function .entry)) children count
             (store (now (self .entry) .schemas) (now (self .entry) .memory)) .1 ⌝ }
@@ -63,8 +63,8 @@ impl<H: Host> Arena<H> {
     pub(crate) fn enter(&mut self, node: Node, more: &[u8]) -> u32
         requires room { ⌜ vec-len (now self .memory .nodes) < now self .memory .records ⌝ }
         requires text_room { ⌜ vec-len (now self .memory .text) + length (now more) ≤ now self .memory .bytes ⌝ }
-        requires standing { ⌜ stands (vec-len (now self .memory .text) + length (now more)) (vec-len (now self .memory .nodes)) node
-            ≡ true ⌝ }
+        requires standing { ⌜ stands (vec-len (now self .memory .text) + length (now more))
+            (vec-len (now self .memory .nodes)) node ≡ true ⌝ }
         ensures number { λ r. ⌜ r ≡ length (store (now (self .entry) .schemas) (now (self .entry) .memory) .nodes) ⌝ }
         ensures after { λ _. ⌜ store (now (self .exit) .schemas) (now (self .exit) .memory)
             ≡ grown node (now (more .entry)) (store (now (self .entry) .schemas) (now (self .entry) .memory)) ⌝ }
@@ -98,7 +98,8 @@ impl<H: Host> Arena<H> {
         count: u8,
     ) -> Result<Bound, Refusal>
         ensures { λ r. ⌜ r ≡ bound-by (H·Host .meaning (now (self .entry) .host))
-            (store (now (self .entry) .schemas) (now (self .entry) .memory)) place (newOf (now (asked .entry))) children count ⌝ }
+            (store (now (self .entry) .schemas) (now (self .entry) .memory)) place (newOf (now (asked .entry)))
+            children count ⌝ }
     {
         let kin = self.survey(children, count)?;
         self.bind_over(place, asked, count, &kin)

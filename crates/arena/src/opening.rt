@@ -25,7 +25,8 @@ impl Memory {
 impl<H: Host> Arena<H> {
     /// Ends declaring: an arena without nodes over those schemas, with that host, in that memory.
     pub fn open(declaring: Declaring, host: H, mut memory: Memory) -> Arena<H>
-        ensures opened { λ r. ⌜ store (r .schemas) (r .memory) ≡ empty (allFields (declaring .schemas)) (memory .records) (memory .bytes) ⌝ }
+        ensures opened { λ r. ⌜ store (r .schemas) (r .memory)
+            ≡ empty (allFields (declaring .schemas)) (memory .records) (memory .bytes) ⌝ }
         ensures host { λ r. ⌜ r .host ≡ host ⌝ }
     {
         memory.clear();

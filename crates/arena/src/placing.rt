@@ -39,8 +39,10 @@ impl Memory {
         requires room { ⌜ vec-len (now self .nodes) < now self .records ⌝ }
         requires text_room { ⌜ vec-len (now self .text) + length (now more) ≤ now self .bytes ⌝ }
         ensures number { λ r. ⌜ r ≡ vec-len (now (self .entry) .nodes) ⌝ }
-        ensures nodes { λ _. ⌜ vec-items (now (self .exit) .nodes) ≡ vec-items (now (self .entry) .nodes) ++ (node ∷ []) ⌝ }
-        ensures text { λ _. ⌜ vec-items (now (self .exit) .text) ≡ vec-items (now (self .entry) .text) ++ now (more .entry) ⌝ }
+        ensures nodes { λ _. ⌜ vec-items (now (self .exit) .nodes)
+            ≡ vec-items (now (self .entry) .nodes) ++ (node ∷ []) ⌝ }
+        ensures text { λ _. ⌜ vec-items (now (self .exit) .text)
+            ≡ vec-items (now (self .entry) .text) ++ now (more .entry) ⌝ }
         ensures records { λ _. ⌜ now (self .exit) .records ≡ now (self .entry) .records ⌝ }
         ensures bytes { λ _. ⌜ now (self .exit) .bytes ≡ now (self .entry) .bytes ⌝ }
     {

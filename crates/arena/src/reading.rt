@@ -19,14 +19,16 @@ use vocabulary::types::DType;
 impl<H: Host> Arena<H> {
     /// The record of a node.
     pub fn record(&self, node: u32) -> Result<Node, Refusal>
-        ensures { λ r. ⌜ r ≡ of-node (store (now (self .entry) .schemas) (now (self .entry) .memory)) node (λ x. Ok x) ⌝ }
+        ensures { λ r. ⌜ r ≡ of-node (store (now (self .entry) .schemas) (now (self .entry) .memory)) node
+            (λ x. Ok x) ⌝ }
     {
         Ok(self.memory.node(node)?)
     }
 
     /// The type of a node.
     pub fn dtype(&self, node: u32) -> Result<DType, Refusal>
-        ensures { λ r. ⌜ r ≡ of-node (store (now (self .entry) .schemas) (now (self .entry) .memory)) node (λ x. Ok (x .dtype)) ⌝ }
+        ensures { λ r. ⌜ r ≡ of-node (store (now (self .entry) .schemas) (now (self .entry) .memory)) node
+            (λ x. Ok (x .dtype)) ⌝ }
     {
         Ok(self.record(node)?.dtype)
     }
@@ -53,7 +55,8 @@ impl<H: Host> Arena<H> {
     /// A literal's text or a name, by its bytes. Other nodes have none.
     pub fn text_of(&self, node: u32) -> Result<Option<&[u8]>, Refusal>
         ensures { λ r. ⌜ read-bytes r ≡ of-node (store (now (self .entry) .schemas) (now (self .entry) .memory)) node
-            (λ x. Ok (mapped (part (store (now (self .entry) .schemas) (now (self .entry) .memory) .text)) (textOf (x .function)))) ⌝ }
+            (λ x. Ok (mapped (part (store (now (self .entry) .schemas) (now (self .entry) .memory) .text))
+            (textOf (x .function)))) ⌝ }
     {
         match self.record(node)?.text() {
             Some(span) => Ok(Some(self.memory.text_at(span))),

@@ -15,7 +15,8 @@ use vocabulary::values::Text;
 impl Memory {
     /// The record of that number.
     pub(crate) fn node(&self, number: u32) -> Result<Node, MemoryRefusal>
-        ensures { λ r. ⌜ r ≡ okOr (node-among (reverse (vec-items (now (self .entry) .nodes))) number) (NoSuchNode number) ⌝ }
+        ensures { λ r. ⌜ r ≡ okOr (node-among (reverse (vec-items (now (self .entry) .nodes))) number)
+            (NoSuchNode number) ⌝ }
     {
         let at = number as usize;
         if at < self.nodes.len() {
