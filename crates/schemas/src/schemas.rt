@@ -49,13 +49,20 @@ impl Schemas {
         Ok(found)
     }
 
+    /// The table of all schemas.
+    fn all(&self) -> &[Schema]
+        ensures counted { λ r. ⌜ length (now r) ≡ length (allFields (now (self .entry))) ⌝ }
+        ensures eight { λ r. ⌜ length (now r) ≡ 8 ⌝ }
+    {
+        &self.table[0..]
+    }
+
     /// How many schemas there are, those without columns included.
     pub fn len(&self) -> usize
         ensures value { λ r. ⌜ r ≡ length (allFields (now (self .entry))) ⌝ }
         ensures eight { λ r. ⌜ r ≡ 8 ⌝ }
     {
-        let table = &self.table[0..];
-        table.len()
+        self.all().len()
     }
 
     /// The place and the type of a schema's column of that name.
