@@ -29,7 +29,8 @@ each-fits [] vs h i f v p q = none-some f p
 each-fits (g ∷ fs) [] h i f v p q = none-some v q
 each-fits (g ∷ fs) (w ∷ vs) h zero f v p q =
     let here = and-parts (fits w (g .dtype)) (row-fits fs vs) h .0 in
-    ap (λ (x : Value). fits x (f .dtype)) (sym (some-same q)) ∙ ap (λ (k : Field). fits w (k .dtype)) (sym (some-same p))
+    ap (λ (x : Value). fits x (f .dtype)) (sym (some-same q))
+    ∙ ap (λ (k : Field). fits w (k .dtype)) (sym (some-same p))
     ∙ here
 each-fits (g ∷ fs) (w ∷ vs) h (suc i) f v p q =
     each-fits fs vs (and-parts (fits w (g .dtype)) (row-fits fs vs) h .1) i f v p q
