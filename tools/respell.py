@@ -4,7 +4,8 @@
 usage: python3 tools/respell.py [ROOT]     once, after port.py, at the top of the repository
 
 It goes by words of code: comments and strings stay, but for names in backticks. Functions of src/, exported names,
-inputs and outputs are in snake case already and are not touched. Names that would fall together are given apart below.
+inputs and outputs are in snake case already and are not touched. Names that a file imports from the kit stay, and in the
+proofs of a function so do the names that the check makes. Names that would fall together are given apart below.
 """
 
 import os
@@ -27,6 +28,20 @@ SPECS = re.compile(r"(?<!\S)--[^\n]*")
 TICKS = re.compile(r"`[^`\n]+`")
 
 
+# An import: a path and the names in its braces.
+IMPORT = re.compile(r"\buse ([\w.'·-]+)\.\{([^}]*)\}")
+
+
+def of_the_kit(text, crates):
+    """The names that a file imports from elsewhere than the repository's crates."""
+    kit = set()
+    for path, names in IMPORT.findall(text):
+        parts = path.split(".")
+        if parts[0] != "Rattle" or len(parts) < 2 or parts[1] not in crates:
+            kit.update(WORD.findall(names))
+    return kit
+
+
 def respelled(word):
     if word in APART:
         return APART[word]
@@ -38,22 +53,22 @@ def respelled(word):
     return word
 
 
-def code(text):
-    return WORD.sub(lambda m: respelled(m.group()), text)
+def code(text, stays):
+    return WORD.sub(lambda m: m.group() if stays(m.group()) else respelled(m.group()), text)
 
 
-def comment(text):
-    return TICKS.sub(lambda m: code(m.group()), text)
+def comment(text, stays):
+    return TICKS.sub(lambda m: code(m.group(), stays), text)
 
 
-def turned(text, skip):
+def turned(text, skip, stays):
     out, at = [], 0
     for m in skip.finditer(text):
-        out.append(code(text[at:m.start()]))
+        out.append(code(text[at:m.start()], stays))
         kept = m.group()
-        out.append(comment(kept) if kept.startswith(("//", "--")) else kept)
+        out.append(comment(kept, stays) if kept.startswith(("//", "--")) else kept)
         at = m.end()
-    out.append(code(text[at:]))
+    out.append(code(text[at:], stays))
     return "".join(out)
 
 
@@ -65,13 +80,29 @@ def files(root):
                 yield os.path.join(folder, name)
 
 
+def of_a_function(path):
+    """Whether a file is part of a function's proof, where other names than its own are the check's."""
+    parts = path.split(os.sep)
+    return parts[-2] not in ("specs", "proofs") and path.endswith(".antt")
+
+
 def main():
     root = sys.argv[1] if len(sys.argv) > 1 else "."
-    changed = 0
+    crates = set(os.listdir(os.path.join(root, "crates")))
+    texts = {}
     for path in files(root):
         with open(path, encoding="utf-8") as f:
-            old = f.read()
-        new = turned(old, RUST if path.endswith(".rt") else SPECS)
+            texts[path] = f.read()
+    own = set()
+    for path, text in texts.items():
+        if path.endswith(".antt") and not of_a_function(path):
+            own.update(WORD.findall(SPECS.sub("", text)))
+            own -= of_the_kit(text, crates)
+    changed = 0
+    for path, old in texts.items():
+        kit = of_the_kit(old, crates)
+        made = of_a_function(path)
+        new = turned(old, RUST if path.endswith(".rt") else SPECS, lambda w: w in kit or (made and w not in own))
         if new != old:
             with open(path, "w", encoding="utf-8") as f:
                 f.write(new)

@@ -1,6 +1,6 @@
 -- Making and rebuilding by the typist of bound nodes are those of the model.
 use Rattle.std.proofs.Common.{◌≡◌, ℕ, Bool, true, false, cond, ltb, leb, List, [], Some, None, Ok, Err, Option, Result, sym, refl, ap, ◌∙◌, arith}
-use Rattle.std.proofs.lemmas.Bool.{ltb_true, le_leb}
+use Rattle.std.proofs.lemmas.Bool.{ltb-true, le-leb}
 use Rattle.std.specs.Option.{ok_or}
 use Rattle.vocabulary.specs.declared.nodes.Function.{Function}
 use Rattle.vocabulary.specs.declared.nodes.Function.TheVariants.{Root, Literal, GetItem, Cast, Binary, Between, Host}
@@ -104,7 +104,7 @@ makes_new m w cs n s there = makes_bound m 65535 w cs n s ∙ first w there
     root_first : (q : ℕ) (b : Bool) → ltb q 8 ≡ b
         → ◌≡◌ {A = Result (Unit {0}) MemoryRefusal} (Ok tt) (cond b (Ok tt) (Err (NoSuchSchema q)))
         → leb q 7 ≡ true
-    root_first q true e h = le_leb q 7 (omega (arith, ltb_true q 8 e))
+    root_first q true e h = le-leb q 7 (omega (arith, ltb-true q 8 e))
     root_first q false e h = err_ok (NoSuchSchema q) tt (sym h)
 
     first : (v : New) → Ok tt ≡ schema_there v → make_at m 65535 v cs n s ≡ make m v cs n s

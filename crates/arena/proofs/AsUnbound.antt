@@ -1,7 +1,7 @@
 -- Making and rebuilding by counts alone are those of unbound nodes in the model.
 use Rattle.std.proofs.Common.{◌≡◌, ℕ, zero, suc, ◌+◌, Bool, true, false, cond, not, ◌&&◌, eqb, ltb, leb, List, [], ◌∷◌, map, length, Some, None, Ok, Err, Option, Result, sym, refl, ap, ◌∙◌}
-use lib.ListN.{length_map}
-use Rattle.std.proofs.lemmas.Bool.{and_parts, and_from, eqb_true}
+use lib.ListN.{length-map}
+use Rattle.std.proofs.lemmas.Bool.{and_parts, and_from, eqb-true}
 use Rattle.std.specs.Option.{option_map}
 use Rattle.vocabulary.specs.declared.nodes.Function.{Function}
 use Rattle.vocabulary.specs.declared.nodes.Function.TheVariants.{Root, Literal, GetItem, Cast, Binary, Between, Host}
@@ -52,7 +52,7 @@ filler_is kind.Utf8 b h = false_true h
 filler_is (kind.Extension e) b h = false_true h
 filler_is (kind.Row q) true h = false_true (and_parts (eqb q 0) false h).1
 filler_is (kind.Row q) false h =
-    ap (λ (n : ℕ). rows n) (eqb_true q 0 (and_parts (eqb q 0) true h).0)
+    ap (λ (n : ℕ). rows n) (eqb-true q 0 (and_parts (eqb q 0) true h).0)
 
 -- a record with the type of unbound nodes
 abbrev as_unbound : Node → Node
@@ -122,7 +122,7 @@ entered_loose : (bs : List ℕ) (s : Store) (r : Result Node Refusal)
     → entered_unbound bs (loosened s) r ≡ loosely (entered bs s r)
 entered_loose bs s (Err e) = refl
 entered_loose bs s (Ok x) =
-    ap (λ (n : ℕ). (Ok n, loosened (entered bs s (Ok x)).1)) (length_map s.nodes untyped)
+    ap (λ (n : ℕ). (Ok n, loosened (entered bs s (Ok x)).1)) (length-map s.nodes untyped)
 
 -- making
 pub makes_loose : (w : New) (cs : List ℕ) (n : ℕ) (s : Store) → s.schemas ≡ [] → Loose s
@@ -171,7 +171,7 @@ pub among_untyped : (xs : List Node) (k : ℕ) → unbound_among (map untyped xs
 unfolding node_among unbound_among
 among_untyped [] k = refl
 among_untyped (x ∷ xs) k =
-    ap (λ (n : ℕ). cond (eqb k n) (Some (untyped x)) (unbound_among (map untyped xs) k)) (length_map xs untyped)
+    ap (λ (n : ℕ). cond (eqb k n) (Some (untyped x)) (unbound_among (map untyped xs) k)) (length-map xs untyped)
     ∙ go (among_untyped xs k) (eqb k (length xs))
   where
     go : unbound_among (map untyped xs) k ≡ option_map untyped (node_among xs k)

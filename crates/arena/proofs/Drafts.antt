@@ -1,6 +1,6 @@
 -- What is drafted check by check is what its plan comes to.
-use Rattle.std.proofs.Common.{◌≡◌, ℕ, suc, ◌+◌, min, Bool, true, false, cond, ltb, leb, List, [], ◌∷◌, ◌++◌, length, take, Ok, Err, vec_items, vec_len, Option, Result, sym, refl, ap, ◌∙◌, add_one, arith, length_take}
-use Rattle.std.proofs.lemmas.List.{length_reverse}
+use Rattle.std.proofs.Common.{◌≡◌, ℕ, suc, ◌+◌, min, Bool, true, false, cond, ltb, leb, List, [], ◌∷◌, ◌++◌, length, take, Ok, Err, vec_items, vec_len, Option, Result, sym, refl, ap, ◌∙◌, add-one, arith, length-take}
+use Rattle.std.proofs.lemmas.List.{length-reverse}
 use Rattle.vocabulary.specs.declared.nodes.Function.{Function}
 use Rattle.vocabulary.specs.declared.nodes.Node.{Node}
 use Rattle.vocabulary.specs.declared.refusals.BindingRefusal.{BindingRefusal}
@@ -35,7 +35,7 @@ room_by place used records len more bytes =
 
 -- the same of the memory and of the store
 pub nodes_length : (ss : Schemas) (h : Held) → vec_len h.nodes ≡ length (store ss h).nodes
-nodes_length ss h = h.nodes.ok.0 ∙ sym (length_reverse (vec_items h.nodes))
+nodes_length ss h = h.nodes.ok.0 ∙ sym (length-reverse (vec_items h.nodes))
 
 room_is : (ss : Schemas) (h : Held) (place more : ℕ)
     → room_in place h more
@@ -79,8 +79,8 @@ module _ (p : Plan) (f : Span → Function) (q : Span) (is : f q ≡ p.function)
   ends t d z true true true false = refl
   ends t d z true true true true =
       ap (λ (g : Function). Ok (recorded g p.children p.count t (d + 1) (z + 1))) is
-      ∙ ap (λ (e : ℕ). Ok (recorded p.function p.children p.count t e (z + 1))) (add_one d)
-      ∙ ap (λ (y : ℕ). Ok (recorded p.function p.children p.count t (suc d) y)) (add_one z)
+      ∙ ap (λ (e : ℕ). Ok (recorded p.function p.children p.count t e (z + 1))) (add-one d)
+      ∙ ap (λ (y : ℕ). Ok (recorded p.function p.children p.count t (suc d) y)) (add-one z)
 
   -- all of them
   chained : (s : Store) (xs : List Node) (type : Result DType BindingRefusal)
@@ -98,7 +98,7 @@ module _ (p : Plan) (f : Span → Function) (q : Span) (is : f q ≡ p.function)
 types_gathered : (s : Store) (cs : List ℕ) (n : ℕ) (xs : List Node) → length cs ≡ 8 → looked_up s (named cs n) ≡ Ok xs
     → take (min n 8) (with_more 0 no_kin xs).types ≡ types_of xs
 types_gathered s cs n xs eight e =
-    let l : length (take (min n 8) cs) ≡ min n 8 = simp length_take (omega arith) in
+    let l : length (take (min n 8) cs) ≡ min n 8 = simp length-take (omega arith) in
     let k : min n 8 ≡ 0 + length xs = omega (arith, looked_length s (named cs n) xs e) in
     ap (λ (i : ℕ). take i (with_more 0 no_kin xs).types) k ∙ more_types 0 no_kin xs (omega arith)
 

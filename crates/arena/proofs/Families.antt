@@ -1,5 +1,5 @@
 -- What children come to, by their records.
-use Rattle.std.proofs.Common.{◌≡◌, ℕ, suc, ◌+◌, ◌≤◌, max, List, [], ◌∷◌, ◌++◌, length, take, set, Ok, sym, refl, ap, ◌∙◌, append_assoc, append_nil, arith, length_set}
+use Rattle.std.proofs.Common.{◌≡◌, ℕ, suc, ◌+◌, ◌≤◌, max, List, [], ◌∷◌, ◌++◌, length, take, set, Ok, sym, refl, ap, ◌∙◌, append_assoc, append-nil, arith, length-set}
 use Rattle.std.proofs.lemmas.List.{take_more_set}
 use Rattle.vocabulary.specs.declared.nodes.Node.{Node}
 use Rattle.vocabulary.specs.declared.types.DType.{DType}
@@ -19,9 +19,9 @@ more_size i k (x ∷ xs) = let h = more_size (i + 1) (with_child i k x) xs in om
 
 pub more_types : (i : ℕ) (k : Kin) (xs : List Node) → i + length xs ≤ length k.types
     → take (i + length xs) (with_more i k xs).types ≡ take i k.types ++ types_of xs
-more_types i k [] h = let e : i + 0 ≡ i = omega arith in rw (e, append_nil)
+more_types i k [] h = let e : i + 0 ≡ i = omega arith in rw (e, append-nil)
 more_types i k (x ∷ xs) h =
-    let l = length_set k.types i x.dtype in
+    let l = length-set k.types i x.dtype in
     let e : i + suc (length xs) ≡ i + 1 + length xs = omega arith in
     let again = more_types (i + 1) (with_child i k x) xs (omega arith) in
     ap (λ (n : ℕ). take n (with_more i k (x ∷ xs)).types) e ∙ again

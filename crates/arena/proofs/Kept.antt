@@ -1,6 +1,6 @@
 -- What was there before stays in front while more is made, and is what is left when that is taken back.
-use Rattle.std.proofs.Common.{◌≡◌, ℕ, ◌+◌, ◌≤◌, true, List, [], ◌++◌, reverse, length, take, vec_items, vec_len, sym, refl, ap, ◌∙◌, subst, arith, length_append, length_take}
-use Rattle.std.proofs.lemmas.List.{reverse_append, reverse_reverse, length_reverse, take_append_le, take_all}
+use Rattle.std.proofs.Common.{◌≡◌, ℕ, ◌+◌, ◌≤◌, true, List, [], ◌++◌, reverse, length, take, vec_items, vec_len, sym, refl, ap, ◌∙◌, subst, arith, length-append, length-take}
+use Rattle.std.proofs.lemmas.List.{reverse-append, reverse-reverse, length-reverse, take-append-le, take_all}
 use Rattle.vocabulary.specs.declared.nodes.Node.{Node}
 use Rattle.meaning.specs.Columns.{Schemas}
 use Rattle.model.specs.LawsOfMaking.{Grows}
@@ -14,10 +14,10 @@ use Rattle.arena.specs.Trials.{taken_back}
 grown_forward : (ss rr : Schemas) (h later : Held) (g : Grows (store ss h) (store rr later))
     → vec_items later.nodes ≡ vec_items h.nodes ++ reverse g.newer
 grown_forward ss rr h later g =
-    sym (reverse_reverse (vec_items later.nodes))
+    sym (reverse-reverse (vec_items later.nodes))
     ∙ ap (λ (xs : List Node). reverse xs) g.nodes
-    ∙ reverse_append g.newer (reverse (vec_items h.nodes))
-    ∙ ap (λ (xs : List Node). xs ++ reverse g.newer) (reverse_reverse (vec_items h.nodes))
+    ∙ reverse-append g.newer (reverse (vec_items h.nodes))
+    ∙ ap (λ (xs : List Node). xs ++ reverse g.newer) (reverse-reverse (vec_items h.nodes))
 
 -- what holds of an attempt's marks holds after more was made
 pub record Marked (h : Held) (nodes text : ℕ) : Type 0 where
@@ -30,11 +30,11 @@ pub still_marked : (ss rr : Schemas) (h later : Held) (nodes text : ℕ) → Gro
 still_marked ss rr h later nodes text g m =
     let xs = vec_items h.nodes in
     let all = grown_forward ss rr h later g in
-    let more = ap length all ∙ length_append xs (reverse g.newer) in
-    let longer = ap length g.text ∙ length_append (vec_items h.text) g.more in
+    let more = ap length all ∙ length-append xs (reverse g.newer) in
+    let longer = ap length g.text ∙ length-append (vec_items h.text) g.more in
     let front : take nodes (vec_items later.nodes) ≡ take nodes xs =
     ap (λ (ys : List Node). take nodes ys) all
-    ∙ take_append_le nodes xs (reverse g.newer) (omega (arith, m.fewer, h.nodes.ok.0)) in
+    ∙ take-append-le nodes xs (reverse g.newer) (omega (arith, m.fewer, h.nodes.ok.0)) in
     record {
       fewer = omega (arith, m.fewer, h.nodes.ok.0, later.nodes.ok.0, more);
       shorter = omega (arith, m.shorter, h.text.ok.0, later.text.ok.0, longer);
@@ -54,13 +54,13 @@ taken_back_grown s later g =
     let old = s.nodes in
     same_store _ _ _ _ _ _ _ _ _ _ g.schemas
     (ap (λ (xs : List Node). reverse (take (length old) (reverse xs))) g.nodes
-    ∙ ap (λ (xs : List Node). reverse (take (length old) xs)) (reverse_append g.newer old)
+    ∙ ap (λ (xs : List Node). reverse (take (length old) xs)) (reverse-append g.newer old)
     ∙ ap (λ (xs : List Node). reverse xs)
-    (take_append_le (length old) (reverse old) (reverse g.newer) (omega (arith, length_reverse old))
-    ∙ take_all (length old) (reverse old) (omega (arith, length_reverse old)))
-    ∙ reverse_reverse old)
+    (take-append-le (length old) (reverse old) (reverse g.newer) (omega (arith, length-reverse old))
+    ∙ take_all (length old) (reverse old) (omega (arith, length-reverse old)))
+    ∙ reverse-reverse old)
     (ap (λ (xs : List ℕ). take (length s.text) xs) g.text
-    ∙ take_append_le (length s.text) s.text g.more (omega arith)
+    ∙ take-append-le (length s.text) s.text g.more (omega arith)
     ∙ take_all (length s.text) s.text (omega arith))
     g.records g.bytes
 
@@ -73,7 +73,7 @@ pub cut_is : (ss : Schemas) (h : Held) (nodes text : ℕ) (xs : List Node) (bs :
 cut_is ss h nodes text xs bs e f =
     same_store ss ss _ _ _ _ _ _ _ _ refl
     (ap (λ (ys : List Node). reverse ys) e
-    ∙ ap (λ (ys : List Node). reverse (take nodes ys)) (sym (reverse_reverse (vec_items h.nodes))))
+    ∙ ap (λ (ys : List Node). reverse (take nodes ys)) (sym (reverse-reverse (vec_items h.nodes))))
     f refl refl
 
 -- the marks of a memory that was cut back to them
@@ -81,8 +81,8 @@ pub cut_marked : (h later : Held) (nodes text : ℕ) → Marked h nodes text
     → vec_items later.nodes ≡ take nodes (vec_items h.nodes)
     → vec_items later.text ≡ take text (vec_items h.text) → Marked later nodes text
 cut_marked h later nodes text m e f =
-    let few = ap length e ∙ length_take nodes (vec_items h.nodes) in
-    let short = ap length f ∙ length_take text (vec_items h.text) in
+    let few = ap length e ∙ length-take nodes (vec_items h.nodes) in
+    let short = ap length f ∙ length-take text (vec_items h.text) in
     let same : take nodes (vec_items later.nodes) ≡ take nodes (vec_items h.nodes) =
     take_all nodes (vec_items later.nodes) (omega (arith, few)) ∙ e in
     record {

@@ -1,5 +1,5 @@
 -- A node that is made by a draft is the one that making comes to.
-use Rattle.std.proofs.Common.{◌≡◌, ℕ, ◌+◌, true, List, ◌++◌, length, Ok, Err, vec_items, vec_len, Result, sym, refl, ap, ◌∙◌, subst, length_append}
+use Rattle.std.proofs.Common.{◌≡◌, ℕ, ◌+◌, true, List, ◌++◌, length, Ok, Err, vec_items, vec_len, Result, sym, refl, ap, ◌∙◌, subst, length-append}
 use Rattle.vocabulary.specs.declared.nodes.Node.{Node}
 use Rattle.vocabulary.specs.declared.refusals.Refusal.{Refusal}
 use Rattle.vocabulary.specs.Nodes.{text_of}
@@ -52,6 +52,6 @@ module _ (ss : Schemas) (h : Held) (typing : Typing) (place : ℕ) (w : New) (cs
       ends_inside (s.text ++ new_bytes w) (text_of (new_function s.text w)) (new_honest any_host s w cs n).ends
       in
       let l : length (s.text ++ new_bytes w) ≡ vec_len h.text + length (new_bytes w) =
-      length_append s.text (new_bytes w) ∙ ap (λ (k : ℕ). k + length (new_bytes w)) (sym h.text.ok.0) in
+      length-append s.text (new_bytes w) ∙ ap (λ (k : ℕ). k + length (new_bytes w)) (sym h.text.ok.0) in
       build_fits (typing place w n) ss h (plan_at place w cs n s) _ eight
       (subst (λ (k : ℕ). ends_within k (text_of (new_function s.text w)) ≡ true) l inside) (sym (made_granted d e))

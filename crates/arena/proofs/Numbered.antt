@@ -1,7 +1,7 @@
 -- Records by their numbers, in the order of making and with the newest first.
 use Rattle.std.proofs.Common.{◌≡◌, ℕ, suc, ◌-◌, ◌<◌, ◌≤◌, Bool, true, false, cond, eqb, List, [], ◌∷◌, reverse, length, get_or, Some, None, sym, refl, ap, ◌∙◌, arith}
-use Rattle.std.proofs.lemmas.List.{get_or_reverse, length_reverse}
-use Rattle.std.proofs.lemmas.Bool.{eqb_true, eqb_false}
+use Rattle.std.proofs.lemmas.List.{get_or-reverse, length-reverse}
+use Rattle.std.proofs.lemmas.Bool.{eqb-true, eqb-false}
 use Rattle.vocabulary.specs.declared.nodes.Node.{Node}
 use Rattle.model.specs.Stores.{node_among}
 use Rattle.model.proofs.Numbers.{node_older, node_newest, node_past}
@@ -16,11 +16,11 @@ among_at (y ∷ ys) n d h = go (among_at ys n d) (eqb n (length ys)) refl
         → (b : Bool) → eqb n (length ys) ≡ b
         → node_among (y ∷ ys) n ≡ Some (get_or (y ∷ ys) (suc (length ys) - 1 - n) d)
     go f true e =
-        let i : n ≡ length ys = eqb_true n (length ys) e in
+        let i : n ≡ length ys = eqb-true n (length ys) e in
         let z : suc (length ys) - 1 - n ≡ 0 = omega arith in
         node_newest y ys n i ∙ ap (λ (k : ℕ). Some (get_or (y ∷ ys) k d)) (sym z)
     go f false e =
-        let w = eqb_false n (length ys) e in
+        let w = eqb-false n (length ys) e in
         let l : n < length ys = omega (arith, w) in
         let z : suc (length ys) - 1 - n ≡ suc (length ys - 1 - n) = omega arith in
         node_older y ys n l ∙ f l ∙ ap (λ (k : ℕ). Some (get_or (y ∷ ys) k d)) (sym z)
@@ -28,11 +28,11 @@ among_at (y ∷ ys) n d h = go (among_at ys n d) (eqb n (length ys)) refl
 -- the record of a number, in the order of making
 pub node_made : (xs : List Node) (n : ℕ) (d : Node) → n < length xs → node_among (reverse xs) n ≡ Some (get_or xs n d)
 node_made xs n d h =
-    let l = length_reverse xs in
+    let l = length-reverse xs in
     let z : length xs - 1 - (length (reverse xs) - 1 - n) ≡ n = omega arith in
     among_at (reverse xs) n d (omega arith)
-    ∙ ap Some (get_or_reverse xs (length (reverse xs) - 1 - n) d (omega arith) ∙ ap (λ (k : ℕ). get_or xs k d) z)
+    ∙ ap Some (get_or-reverse xs (length (reverse xs) - 1 - n) d (omega arith) ∙ ap (λ (k : ℕ). get_or xs k d) z)
 
 -- a number past the records has none
 pub node_not_made : (xs : List Node) (n : ℕ) → length xs ≤ n → node_among (reverse xs) n ≡ None
-node_not_made xs n h = let l = length_reverse xs in node_past (reverse xs) n (omega arith)
+node_not_made xs n h = let l = length-reverse xs in node_past (reverse xs) n (omega arith)

@@ -1,7 +1,7 @@
 -- Records that are entered stand, and those before them still do.
-use Rattle.std.proofs.Common.{◌≡◌, ℕ, zero, suc, ◌+◌, ◌<◌, ◌≤◌, min, Bool, true, false, cond, ◌&&◌, eqb, ltb, leb, List, [], ◌∷◌, ◌++◌, reverse, length, take, Some, None, Ok, Err, vec_items, vec_len, Option, Result, sym, refl, ap, ◌∙◌, subst, arith, length_append}
-use Rattle.std.proofs.lemmas.List.{reverse_append}
-use Rattle.std.proofs.lemmas.Bool.{and_parts, and_from, leb_true, ltb_true, le_leb, eq_eqb, eqb_true}
+use Rattle.std.proofs.Common.{◌≡◌, ℕ, zero, suc, ◌+◌, ◌<◌, ◌≤◌, min, Bool, true, false, cond, ◌&&◌, eqb, ltb, leb, List, [], ◌∷◌, ◌++◌, reverse, length, take, Some, None, Ok, Err, vec_items, vec_len, Option, Result, sym, refl, ap, ◌∙◌, subst, arith, length-append}
+use Rattle.std.proofs.lemmas.List.{reverse-append}
+use Rattle.std.proofs.lemmas.Bool.{and_parts, and_from, leb-true, ltb-true, le-leb, eq-eqb, eqb-true}
 use Rattle.vocabulary.specs.declared.nodes.Node.{Node}
 use Rattle.vocabulary.specs.declared.refusals.BindingRefusal.{BindingRefusal}
 use Rattle.vocabulary.specs.declared.refusals.Refusal.{Refusal}
@@ -26,7 +26,7 @@ use Rattle.arena.proofs.Drafts.{nodes_length}
 ends_more : (len more : ℕ) (o : Option Span) → ends_within len o ≡ true → ends_within (len + more) o ≡ true
 ends_more len more None h = refl
 ends_more len more (Some p) h =
-    le_leb (p.start + p.len) (len + more) (omega (arith, leb_true (p.start + p.len) len h))
+    le-leb (p.start + p.len) (len + more) (omega (arith, leb-true (p.start + p.len) len h))
 
 -- the parts of a record that stands
 pub record Stood (len : ℕ) (older : List Node) (x : Node) : Type 0 where
@@ -94,7 +94,7 @@ lies len (y ∷ ys) k x h e = go (lies len ys k x parts.1) (eqb k (length ys)) r
           newer = [];
           older = ys;
           whole = ap (λ (z : Node). z ∷ ys) same;
-          number = eqb_true k (length ys) i;
+          number = eqb-true k (length ys) i;
           there = subst (λ (z : Node). stands len ys z ≡ true) same parts.0;
         }
     go rest false i f =
@@ -140,10 +140,10 @@ built types p s x e = over (looked_up s (named p.children p.count)) refl e
           records = xs;
           type = t;
           there = a;
-          shallow = leb_true (suc (deepest xs)) 256 deep;
-          small = leb_true (suc (total_size xs)) 4096 large;
-          room = ltb_true (length s.nodes) s.records free;
-          text_room = leb_true (length s.text + length p.adds) s.bytes long;
+          shallow = leb-true (suc (deepest xs)) 256 deep;
+          small = leb-true (suc (total_size xs)) 4096 large;
+          room = ltb-true (length s.nodes) s.records free;
+          text_room = leb-true (length s.text + length p.adds) s.bytes long;
           is = sym (ok_same h5);
         }
 
@@ -163,13 +163,13 @@ built_stands p s x b eight len ends =
     ap (found_among s.nodes) (padded_named cs n eight) ∙ sym (looked_found s (named cs n)) ∙ b.there in
     subst (λ (z : Node). stands len s.nodes z ≡ true) (sym b.is)
     (stands_by len s.nodes y (record {
-      few = and_from _ _ (le_leb (min n 8) 8 (omega arith)) (eq_eqb _ 8 (padded_eight cs n eight));
+      few = and_from _ _ (le-leb (min n 8) 8 (omega arith)) (eq-eqb _ 8 (padded_eight cs n eight));
       measured =
           ap (measures y) found
           ∙ and_from _ _
-          (and_from _ _ (eq_eqb (suc (deepest b.records)) _ refl) (eq_eqb (suc (total_size b.records)) _ refl))
-          (and_from _ _ (le_leb (suc (deepest b.records)) 256 b.shallow)
-          (le_leb (suc (total_size b.records)) 4096 b.small));
+          (and_from _ _ (eq-eqb (suc (deepest b.records)) _ refl) (eq-eqb (suc (total_size b.records)) _ refl))
+          (and_from _ _ (le-leb (suc (deepest b.records)) 256 b.shallow)
+          (le-leb (suc (total_size b.records)) 4096 b.small));
       inside = ends;
     }))
 
@@ -194,7 +194,7 @@ build_fits types ss h p x eight ends e =
 
 pub ends_inside : (all : List ℕ) (o : Option Span) → EndsWithin all o → ends_within (length all) o ≡ true
 ends_inside all None h = refl
-ends_inside all (Some p) h = le_leb (p.start + p.len) (length all) h
+ends_inside all (Some p) h = le-leb (p.start + p.len) (length all) h
 
 -- all records stand after one was added behind them, and bytes behind the text
 pub added_stand : (h : Held) (xs : List Node) (len : ℕ) (x : Node) (more : List ℕ)
@@ -206,7 +206,7 @@ added_stand h xs len x more nodes longer new =
     let size = vec_len h.text in
     ap (λ (k : ℕ). all_stand k (reverse xs)) longer
     ∙ ap (λ (zs : List Node). all_stand (size + length more) (reverse zs)) nodes
-    ∙ ap (all_stand (size + length more)) (reverse_append old (x ∷ []))
+    ∙ ap (all_stand (size + length more)) (reverse-append old (x ∷ []))
     ∙ and_from (stands (size + length more) (reverse old) x) (all_stand (size + length more) (reverse old)) new
     (all_stand_more size (length more) (reverse old) h.sound)
 
@@ -224,4 +224,4 @@ pub added_grown : (ss : Schemas) (h : Held) (xs : List Node) (text : List ℕ) (
     (grown x more (store ss h))
 added_grown ss h xs text x more nodes bytes =
     same_store ss _ _ _ _ _ _ _ _
-    (ap (λ (z : List Node). reverse z) nodes ∙ reverse_append (vec_items h.nodes) (x ∷ [])) bytes refl refl
+    (ap (λ (z : List Node). reverse z) nodes ∙ reverse-append (vec_items h.nodes) (x ∷ [])) bytes refl refl

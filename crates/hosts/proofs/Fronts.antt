@@ -1,6 +1,6 @@
 -- When bytes begin with others.
 use Rattle.std.proofs.Common.{◌≡◌, ℕ, Bool, true, eqb, List, [], ◌∷◌, ◌++◌, length, drop, refl, ap, ◌∙◌}
-use Rattle.std.proofs.lemmas.Bool.{and_parts, and_from, eqb_true, eq_eqb}
+use Rattle.std.proofs.lemmas.Bool.{and_parts, and_from, eqb-true, eq-eqb}
 use Rattle.std.proofs.lemmas.Bool.Decides.{same_from_decides}
 use Rattle.hosts.specs.Labels.{begins, BeginsIsAFront}
 use Rattle.hosts.specs.Tools.{false_true}
@@ -9,7 +9,7 @@ use Rattle.hosts.specs.Tools.{false_true}
 begins_front : (ys rest : List ℕ) → begins (ys ++ rest) ys ≡ true
 begins_front [] rest = refl
 begins_front (y ∷ ys) rest =
-    and_from (eqb y y) (begins (ys ++ rest) ys) (eq_eqb y y refl) (begins_front ys rest)
+    and_from (eqb y y) (begins (ys ++ rest) ys) (eq-eqb y y refl) (begins_front ys rest)
 
 -- what a list begins with leaves a rest
 front_begins : (xs ys : List ℕ) → begins xs ys ≡ true → (rest : List ℕ) × (xs ≡ ys ++ rest)
@@ -18,7 +18,7 @@ front_begins [] (y ∷ ys) p = false_true p
 front_begins (x ∷ xs) (y ∷ ys) p =
     let (h, t) = and_parts (eqb x y) (begins xs ys) p in
     let (rest, e) = front_begins xs ys t in
-    (rest, ap (λ z. z ∷ xs) (eqb_true x y h) ∙ ap (λ zs. y ∷ zs) e)
+    (rest, ap (λ z. z ∷ xs) (eqb-true x y h) ∙ ap (λ zs. y ∷ zs) e)
 
 pub begins_is_a_front : BeginsIsAFront
 begins_is_a_front xs ys =

@@ -1,7 +1,7 @@
 -- The host Numbers is lawful, and coalesce is the first of its arguments that is not null.
 use Rattle.std.specs.Prelude.{◌≡◌, ℕ, suc, ◌+◌, ◌<◌, Bool, true, false, cond, ◌&&◌, List, [], ◌∷◌, length, is_some, Some, None, Option, ◌≢◌, nat_le, refl}
-use Rattle.std.proofs.Common.{ap, sym, subst, ◌∙◌, arith, add_zero}
-use Rattle.std.proofs.lemmas.Bool.{and_parts, le_leb, cond_true}
+use Rattle.std.proofs.Common.{ap, sym, subst, ◌∙◌, arith, add-zero}
+use Rattle.std.proofs.lemmas.Bool.{and_parts, le-leb, cond-true}
 use Rattle.std.proofs.lemmas.Bool.Decides.{nat_tests}
 use Rattle.vocabulary.specs.declared.types.DType.{DType}
 use Rattle.vocabulary.specs.declared.types.Kind.{Kind}
@@ -33,7 +33,7 @@ first_from : (ws : List Value) (i : ℕ) (vs : List Value)
     → ((k : ℕ) → nth ws (i + k) ≡ nth vs k) → reply_value ws (first_given i vs) ≡ value (coalesced vs)
 first_from ws i [] h = refl
 first_from ws i (v ∷ vs) h =
-    one_given ws vs i v (is_null v) (ap (nth ws) (sym (add_zero i)) ∙ h 0)
+    one_given ws vs i v (is_null v) (ap (nth ws) (sym (add-zero i)) ∙ h 0)
     (first_from ws (i + 1) vs
     (λ k. let e : (i + 1) + k ≡ i + suc k = omega arith in ap (nth ws) e ∙ h (suc k)))
 
@@ -42,7 +42,7 @@ given_value vs = first_from vs 0 vs (λ k. let e : 0 + k ≡ k = omega arith in 
 
 pub coalesce_is_the_first : CoalesceIsTheFirst
 coalesce_is_the_first vs h =
-    ap (reply_value vs) (cond_true (nat_le (length vs) 8) (first_given 0 vs) (fails 0) (le_leb (length vs) 8 h))
+    ap (reply_value vs) (cond-true (nat_le (length vs) 8) (first_given 0 vs) (fails 0) (le-leb (length vs) 8 h))
     ∙ given_value vs
 
 -- where it has a value, that is the first

@@ -1,6 +1,6 @@
 use Rattle.std.proofs.Common.{◌≡◌, ℕ, ◌+◌, ◌<◌, ◌≤◌, Bool, true, false, ◌&&◌, leb, List, length, get_or, drop, IfSome, Some, None, Option, sym, ap, ◌∙◌}
 use Rattle.std.proofs.lemmas.List.{at_drop_more, at_drop_all}
-use Rattle.std.proofs.lemmas.Bool.{le_leb}
+use Rattle.std.proofs.lemmas.Bool.{le-leb}
 use Rattle.vocabulary.specs.declared.types.DType.{DType}
 use Rattle.vocabulary.specs.Types.{is_plain}
 use Rattle.meaning.specs.Hosts.{Meaning, all_plain, host_type}
@@ -23,7 +23,7 @@ pub bound_type : (m : Meaning) (c : ℕ) (ts : List DType) (r : Option DType)
     → true ≡ m.has c → true ≡ m.takes c (length ts) → length ts ≤ 8 → true ≡ all_plain ts
     → r ≡ m.types c ts → r ≡ host_type m c ts
 bound_type m c ts r has takes few plain given =
-    let counted : leb (length ts) 8 ≡ true = le_leb (length ts) 8 few in
+    let counted : leb (length ts) 8 ≡ true = le-leb (length ts) 8 few in
     rw (← has, ← takes, counted, ← plain) given
 
 -- a lawful host's calls are of plain types

@@ -1,5 +1,5 @@
 -- A merge takes the first pair, read off the lists of conjuncts.
-use Rattle.std.proofs.Common.{◌≡◌, List, [], ◌∷◌, ◌++◌, Some, None, Option, sym, refl, ap, ◌∙◌, subst, append_assoc, append_nil}
+use Rattle.std.proofs.Common.{◌≡◌, List, [], ◌∷◌, ◌++◌, Some, None, Option, sym, refl, ap, ◌∙◌, subst, append_assoc, append-nil}
 use Rattle.vocabulary.specs.declared.operators.Connective.TheVariants.{And, Or}
 use Rattle.meaning.specs.Columns.{Schemas}
 use Rattle.meaning.specs.Conjuncts.{conjuncts, replace_first, EachConjunct}
@@ -119,7 +119,7 @@ module _ (m : Meaning) (ss : Schemas) where
       }
 
   in_before : (a : Expr) (x : Option Expr) → left_over (Some (before a x)) ≡ conjuncts a ++ left_over x
-  in_before a None = sym (append_nil (conjuncts a))
+  in_before a None = sym (append-nil (conjuncts a))
   in_before a (Some b) = refl
 
   -- y has no partner among the conjuncts of l

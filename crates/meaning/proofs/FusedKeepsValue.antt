@@ -1,6 +1,6 @@
 -- Fusing keeps the value wherever there is one.
 use Rattle.std.proofs.Common.{◌≡◌, cond, Some, None, Option, sym, refl, ap, ◌∙◌, subst, inl, inr}
-use Rattle.std.proofs.lemmas.Bool.{cond_true, cond_false}
+use Rattle.std.proofs.lemmas.Bool.{cond-true, cond-false}
 use Rattle.vocabulary.specs.declared.operators.CompareOperator.{CompareOperator}
 use Rattle.vocabulary.specs.declared.operators.CompareOperator.TheVariants.{Eq, NotEq, Gt, Gte, Lt, Lte}
 use Rattle.vocabulary.specs.declared.operators.Connective.TheVariants.{And, Or}
@@ -102,10 +102,10 @@ module _ (m : Meaning) (ss : Schemas) (r : Env) where
       let y : Outcome Value = compares (bound_operator q.strict) (at p.col) q.bound.value in
       let i : eval m r c ≡ x =
       range_eval c p hp
-      ∙ cond_true p.lower x (compares (bound_operator p.strict) (at p.col) p.bound.value) z.0 in
+      ∙ cond-true p.lower x (compares (bound_operator p.strict) (at p.col) p.bound.value) z.0 in
       let j : eval m r d ≡ y =
       range_eval d q hq
-      ∙ cond_false q.lower (compares (bound_operator q.strict) q.bound.value (at q.col))
+      ∙ cond-false q.lower (compares (bound_operator q.strict) q.bound.value (at q.col))
       (compares (bound_operator q.strict) (at q.col) q.bound.value) z.1
       ∙ ap (λ (k : Column). compares (bound_operator q.strict) (at k) q.bound.value) (sym e) in
       ap worth (sym z.2)

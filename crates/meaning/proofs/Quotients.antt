@@ -1,6 +1,6 @@
 -- Quotients drop the fraction toward zero, zero divisors fault, and other results are exact.
-use Rattle.std.proofs.Common.{◌≡◌, ℕ, zero, suc, ◌+◌, ◌-◌, ◌*◌, ◌/◌, ◌^◌, ◌<◌, ◌≤◌, Bool, true, false, cond, eqb, ltb, ℤ, pos, negsuc, ◌+ℤ◌, ◌-ℤ◌, ◌*ℤ◌, neg_ℤ, sym, refl, ap, ◌∙◌, div_lt_iff_lt_mul, div_mul_le_self, arith}
-use Rattle.std.proofs.lemmas.Bool.{cond_true, cond_false, eqb_false}
+use Rattle.std.proofs.Common.{◌≡◌, ℕ, zero, suc, ◌+◌, ◌-◌, ◌*◌, ◌/◌, ◌^◌, ◌<◌, ◌≤◌, Bool, true, false, cond, eqb, ltb, ℤ, pos, negsuc, ◌+ℤ◌, ◌-ℤ◌, ◌*ℤ◌, neg_ℤ, sym, refl, ap, ◌∙◌, div-lt_iff_lt-mul, div-mul-le_self, arith}
+use Rattle.std.proofs.lemmas.Bool.{cond-true, cond-false, eqb-false}
 use Rattle.vocabulary.specs.declared.operators.Arithmetic.TheVariants.{Add, Sub, Mul, Div}
 use Rattle.meaning.specs.Outcomes.{Outcome, value, fault, Fault, arithmetic}
 use Rattle.meaning.specs.Values.{Value, signed, unsigned, in_i64}
@@ -30,7 +30,7 @@ sign_of_quotient (negsuc a) (negsuc b) n = refl
 -- a quotient of magnitudes
 truncated : (a b : ℕ) → 0 < b → Truncated a b (a / b)
 truncated a b h =
-    record { covers = div_mul_le_self a b; closest = (div_lt_iff_lt_mul h).0 (omega arith) }
+    record { covers = div-mul-le_self a b; closest = (div-lt_iff_lt-mul h).0 (omega arith) }
 
 -- a result that there is room for
 kept : {A : Type 0} (b : Bool) (v w : A) (x : Fault) → cond b (value v) (fault x) ≡ value w → v ≡ w
@@ -44,7 +44,7 @@ passed true x o w h = let z : ◌≡◌ {A = ℕ} 0 1 = cc in absurd (omega arit
 passed false x o w h = (refl, h)
 
 positive : (n : ℕ) → eqb n 0 ≡ false → 0 < n
-positive n h = omega (arith, eqb_false n 0 h)
+positive n h = omega (arith, eqb-false n 0 h)
 
 signed_quotient : (a b q : ℤ) → computes Div (signed a) (signed b) ≡ value (signed q)
     → Truncated (magnitude a) (magnitude b) (magnitude q) × (signs_agree a b q ≡ true)
@@ -80,7 +80,7 @@ zero_divisors_fault = (λ a. refl, λ a. refl)
 
 -- a result that has room, or none
 exact : (room : Bool) (v : Value) → Exact room v (cond room (value v) (fault arithmetic))
-exact room v = (cond_true room (value v) (fault arithmetic), cond_false room (value v) (fault arithmetic))
+exact room v = (cond-true room (value v) (fault arithmetic), cond-false room (value v) (fault arithmetic))
 
 pub results_are_exact : ResultsAreExact
 unfolding compute_signed compute_unsigned
@@ -100,6 +100,6 @@ results_are_exact = (signed_ones, unsigned_ones)
     unsigned_ones a b = (
       exact _ _,
       exact _ _,
-      cond_true (ltb a b) (fault arithmetic) (unsigned_result (a - b)),
-      λ h. rw (cond_false (ltb a b) (fault arithmetic) (unsigned_result (a - b)) h) (exact _ _),
+      cond-true (ltb a b) (fault arithmetic) (unsigned_result (a - b)),
+      λ h. rw (cond-false (ltb a b) (fault arithmetic) (unsigned_result (a - b)) h) (exact _ _),
     )

@@ -1,7 +1,7 @@
 -- Range comparisons and the pairs of them that fuse, taken apart.
 use Rattle.std.proofs.Common.{◌≡◌, ℕ, Bool, true, false, cond, ◌⊎◌, List, Some, None, Option, sym, refl, ap, ◌∙◌, inl, inr}
-use Rattle.std.proofs.lemmas.Slice.Eq.{bytes_eq_Decides}
-use Rattle.std.proofs.lemmas.Bool.{and_parts, eqb_true}
+use Rattle.std.proofs.lemmas.Slice.Eq.{bytes_eq-Decides}
+use Rattle.std.proofs.lemmas.Bool.{and_parts, eqb-true}
 use Rattle.vocabulary.specs.declared.operators.CompareOperator.{CompareOperator}
 use Rattle.vocabulary.specs.declared.operators.CompareOperator.TheVariants.{Eq, NotEq, Gt, Gte, Lt, Lte}
 use Rattle.vocabulary.specs.declared.types.DType.{DType}
@@ -134,8 +134,8 @@ range_inv (node (call c) es) p h = none_some p h
 one_column : (x y : Column) → same_column x y ≡ true → x ≡ y
 one_column x y h =
     let (a, b) = and_parts _ _ h in
-    ap (λ (z : List ℕ). record { name = z; schema = x.schema }) ((bytes_eq_Decides x.name y.name).0 a)
-    ∙ ap (λ (z : ℕ). record { name = y.name; schema = z }) (eqb_true x.schema y.schema b)
+    ap (λ (z : List ℕ). record { name = z; schema = x.schema }) ((bytes_eq-Decides x.name y.name).0 a)
+    ∙ ap (λ (z : ℕ). record { name = y.name; schema = z }) (eqb-true x.schema y.schema b)
 
 -- an expression answered where it binds is that expression, and binds
 bound_is : (m : Meaning) (ss : Schemas) (e b : Expr) (x : Option DType) → typed m ss e ≡ x

@@ -1,6 +1,6 @@
 -- A row of one schema as an environment: its values fit, and each column reads its place.
 use Rattle.std.proofs.Common.{◌≡◌, ℕ, zero, suc, ◌+◌, ◌≤◌, Bool, true, false, cond, eqb, List, [], ◌∷◌, Some, None, Option, sym, refl, ap, ◌∙◌, subst, arith}
-use Rattle.std.proofs.lemmas.Bool.{and_parts, eqb_true}
+use Rattle.std.proofs.lemmas.Bool.{and_parts, eqb-true}
 use Rattle.std.proofs.lemmas.Bool.Decides.{nat_tests}
 use Rattle.std.specs.Option.{option_map}
 use Rattle.std.specs.Str.{bytes_eq}
@@ -58,7 +58,7 @@ row_fit : (ss : Schemas) (s : ℕ) (vs : List Value) → row_fits (columns_of ss
 row_fit ss s vs p q n t h true e =
     let (v, i, f) =
     in_row 0 (columns_of ss s) vs n t p
-    (own_columns ss s n t (subst (λ (z : ℕ). column_type ss z n ≡ Some t) (eqb_true q s e) h)) in
+    (own_columns ss s n t (subst (λ (z : ℕ). column_type ss z n ≡ Some t) (eqb-true q s e) h)) in
     rw i f
 row_fit ss s vs p q n t h false e = rw h (some_fits t)
 

@@ -1,6 +1,6 @@
 -- No rule makes an expression larger, and neither does optimizing.
 use Rattle.std.proofs.Common.{◌≡◌, ℕ, zero, suc, ◌+◌, ◌≤◌, Bool, true, false, cond, not, List, [], ◌∷◌, Some, None, Option, sym, refl, ap, ◌∙◌, subst, arith}
-use Rattle.std.proofs.lemmas.Bool.{and_parts, eqb_false, or_parts, not_true}
+use Rattle.std.proofs.lemmas.Bool.{and_parts, eqb-false, or_parts, not-true}
 use Rattle.vocabulary.specs.declared.operators.Connective.{Connective}
 use Rattle.vocabulary.specs.declared.types.DType.{DType}
 use Rattle.meaning.specs.Columns.{Schemas}
@@ -55,14 +55,14 @@ sum_at_without : (ws : List ℕ) (i : ℕ) (is : List ℕ) → among i is ≡ fa
 sum_at_without ws i [] h = refl
 sum_at_without ws i (j ∷ is) h =
     let (a, b) = or_parts _ _ h in
-    simp (weight_without ws i j (eqb_false i j a), sum_at_without ws i is b)
+    simp (weight_without ws i j (eqb-false i j a), sum_at_without ws i is b)
 
 -- numbers at different places come to no more than all
 distinct_sum : (ws is : List ℕ) → distinct is ≡ true → sum_at ws is ≤ sum ws
 distinct_sum ws [] h = omega arith
 distinct_sum ws (i ∷ is) h =
     let p = and_parts (not (among i is)) (distinct is) h in
-    omega (arith, sum_without ws i, sum_at_without ws i is (not_true _ p.0), distinct_sum (without ws i) is p.1)
+    omega (arith, sum_without ws i, sum_at_without ws i is (not-true _ p.0), distinct_sum (without ws i) is p.1)
 
 -- the size of each child
 abbrev weights : Exprs → List ℕ

@@ -1,6 +1,6 @@
 -- Bindings are refused for their causes, at a node of the tree.
 use Rattle.std.proofs.Common.{◌≡◌, ℕ, ◌+◌, ◌<◌, ◌≤◌, Bool, true, false, ltb, leb, ◌⊎◌, List, [], ◌∷◌, ◌++◌, length, Ok, Err, Result, sym, refl, ap, ◌∙◌, subst, inl, inr, arith}
-use Rattle.std.proofs.lemmas.Bool.{ltb_true, ltb_false, leb_true, leb_false}
+use Rattle.std.proofs.lemmas.Bool.{ltb-true, ltb-false, leb-true, leb-false}
 use Rattle.vocabulary.specs.declared.refusals.Refusal.{Refusal}
 use Rattle.vocabulary.specs.Nodes.{padded}
 use Rattle.meaning.specs.Columns.{Schemas}
@@ -85,17 +85,17 @@ module _ (m : Meaning) (u : UnboundStore) (fine : SoundUnbound u) (s : Store) (s
   pub why : (bind m u n q work s).0 ≡ Err r → RefusedBinding m u n q work s r
   why e =
       elim (first_err (ltb n (length u.nodes)) _ s _ r e) [
-        | inl a ↦ subst (RefusedBinding m u n q work s) a.1 (no_node (ltb_false n (length u.nodes) a.0))
+        | inl a ↦ subst (RefusedBinding m u n q work s) a.1 (no_node (ltb-false n (length u.nodes) a.0))
         | inr a ↦
-            let l = ltb_true n (length u.nodes) a.0 in
+            let l = ltb-true n (length u.nodes) a.0 in
             elim (first_err (leb q 7) _ s _ r a.1) [
-              | inl b ↦ subst (RefusedBinding m u n q work s) b.1 (no_schema l (leb_false q 7 b.0))
+              | inl b ↦ subst (RefusedBinding m u n q work s) b.1 (no_schema l (leb-false q 7 b.0))
               | inr b ↦
-                  let below = leb_true q 7 b.0 in
+                  let below = leb-true q 7 b.0 in
                   elim (first_err (leb 256 work) _ s _ r b.1) [
                     | inl c ↦ subst (RefusedBinding m u n q work s) c.1
-                        (work_short l below (leb_false 256 work c.0))
-                    | inr c ↦ in_tree l below (leb_true 256 work c.0) c.1
+                        (work_short l below (leb-false 256 work c.0))
+                    | inr c ↦ in_tree l below (leb-true 256 work c.0) c.1
                   ]
             ]
       ]

@@ -1,7 +1,7 @@
 -- A granted binding: the tree against the schema, one node for each place, in a store that stays sound.
-use Rattle.std.proofs.Common.{◌≡◌, ℕ, suc, ◌+◌, ◌<◌, ◌≤◌, Bool, true, false, cond, eqb, List, [], ◌∷◌, map, length, Ok, Result, sym, refl, ap, ◌∙◌, subst, arith, length_take}
-use lib.ListN.{length_map}
-use Rattle.std.proofs.lemmas.Bool.{eqb_true}
+use Rattle.std.proofs.Common.{◌≡◌, ℕ, suc, ◌+◌, ◌<◌, ◌≤◌, Bool, true, false, cond, eqb, List, [], ◌∷◌, map, length, Ok, Result, sym, refl, ap, ◌∙◌, subst, arith, length-take}
+use lib.ListN.{length-map}
+use Rattle.std.proofs.lemmas.Bool.{eqb-true}
 use Rattle.vocabulary.specs.declared.refusals.Refusal.{Refusal}
 use Rattle.vocabulary.specs.declared.nodes.Node.{Node}
 use Rattle.meaning.specs.Hosts.{Meaning}
@@ -36,7 +36,7 @@ pub kids_long : (text : List ℕ) (n : ℕ) (x : UnboundNode) → Fit text n x
     → length (unbound_kids x) ≡ x.child_count
 kids_long text n x f =
     let few = f.few in
-    simp (length_take, f.eight) (omega arith)
+    simp (length-take, f.eight) (omega arith)
 
 -- the store after a binding: sound, and grown
 pub record Kept (m : Meaning) (s later : Store) : Type 0 where
@@ -156,17 +156,17 @@ module _ (m : Meaning) (q : ℕ) (text : List ℕ) where
           → cond b (onward (bind_all (bind_among m q text xs) (unbound_kids x) s) (bind_over m q text n x))
           (bind_among m q text xs n s) ≡ (Ok k, later) → Bound m (trees_in (x ∷ xs) n) s later k
       go one true a h =
-          let i : n ≡ length xs = eqb_true n (length xs) a in
+          let i : n ≡ length xs = eqb-true n (length xs) a in
           let p = onward_ok (bind_all (bind_among m q text xs) (unbound_kids x) s) (bind_over m q text n x) k later h in
           let all =
           all_granted m (bind_among m q text xs) (trees_in xs) one (unbound_kids x) s sound p.answer p.between
           p.before in
           let fit : Fit text n x = subst (λ (z : ℕ). Fit text z x) (sym i) fits.0 in
           let newest : trees_in (x ∷ xs) n ≡ shape_tree (trees_in xs) (shape text (seen q x)) =
-          tree_newest text (seen q x) (map (seen q) xs) n (i ∙ sym (length_map xs (seen q))) in
+          tree_newest text (seen q x) (map (seen q) xs) n (i ∙ sym (length-map xs (seen q))) in
           subst (λ (z : Expr). Bound m z s later k) (sym newest)
           (over_granted (trees_in xs) n x fit s p.between p.answer all k later p.after)
       go one false a h =
           let other : trees_in (x ∷ xs) n ≡ trees_in xs n =
-          tree_other text (seen q x) (map (seen q) xs) n (ap (eqb n) (length_map xs (seen q)) ∙ a) in
+          tree_other text (seen q x) (map (seen q) xs) n (ap (eqb n) (length-map xs (seen q)) ∙ a) in
           subst (λ (z : Expr). Bound m z s later k) (sym other) (one n s sound k later h)

@@ -1,7 +1,7 @@
 -- Where a binding that is refused halts.
 use Rattle.std.proofs.Common.{◌≡◌, ℕ, suc, ◌+◌, ◌<◌, Bool, true, false, cond, eqb, List, [], ◌∷◌, map, length, Err, sym, refl, ap, ◌∙◌, subst, arith}
-use lib.ListN.{length_map}
-use Rattle.std.proofs.lemmas.Bool.{eqb_true, eqb_false}
+use lib.ListN.{length-map}
+use Rattle.std.proofs.lemmas.Bool.{eqb-true, eqb-false}
 use Rattle.vocabulary.specs.declared.refusals.Refusal.{Refusal}
 use Rattle.vocabulary.specs.Nodes.{padded}
 use Rattle.meaning.specs.Hosts.{Meaning}
@@ -29,7 +29,7 @@ module _ (m : Meaning) (q : ℕ) (text : List ℕ) where
   -- the tree of the newest node
   newest_tree : (x : UnboundNode) (xs : List UnboundNode) (n : ℕ) → n ≡ length xs
       → trees_in m q text (x ∷ xs) n ≡ shape_tree (trees_in m q text xs) (shape text (seen q x))
-  newest_tree x xs n i = tree_newest text (seen q x) (map (seen q) xs) n (i ∙ sym (length_map xs (seen q)))
+  newest_tree x xs n i = tree_newest text (seen q x) (map (seen q) xs) n (i ∙ sym (length-map xs (seen q)))
 
   -- it has one place more than its children
   newest_size : (x : UnboundNode) (xs : List UnboundNode) (n : ℕ) → n ≡ length xs → Fit text n x
@@ -105,7 +105,7 @@ module _ (m : Meaning) (q : ℕ) (text : List ℕ) where
           → cond b (onward (bind_all (bind_among m q text xs) (unbound_kids x) s) (bind_over m q text n x))
           (bind_among m q text xs n s) ≡ (Err r, later) → Halted m q text (x ∷ xs) n s r
       go stop true a h =
-          let i : n ≡ length xs = eqb_true n (length xs) a in
+          let i : n ≡ length xs = eqb-true n (length xs) a in
           let fit : Fit text n x = subst (λ (z : ℕ). Fit text z x) (sym i) fits.0 in
           let f = bind_among m q text xs in
           let one = granted m q text xs fits.1 in
@@ -118,6 +118,6 @@ module _ (m : Meaning) (q : ℕ) (text : List ℕ) where
                 (all_granted m f (trees_in m q text xs) one (unbound_kids x) s sound js s1 c) later d
           ]
       go stop false a h =
-          let other = eqb_false n (length xs) a in
+          let other = eqb-false n (length xs) a in
           let below : n < length xs = omega (arith, other) in
           in_older x xs n s sound r below (stop n s sound r later h below)

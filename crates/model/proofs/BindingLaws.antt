@@ -1,6 +1,6 @@
 -- The laws of granted bindings.
 use Rattle.std.proofs.Common.{◌≡◌, ℕ, Bool, true, false, ltb, leb, List, [], ◌∷◌, length, Some, Ok, Err, Result, sym, refl, ap, ◌∙◌, arith}
-use Rattle.std.proofs.lemmas.Bool.{le_leb, cond_true}
+use Rattle.std.proofs.lemmas.Bool.{le-leb, cond-true}
 use Rattle.vocabulary.specs.declared.nodes.Node.{Node}
 use Rattle.vocabulary.specs.declared.refusals.Refusal.{Refusal}
 use Rattle.meaning.specs.Hosts.{Meaning}
@@ -107,7 +107,7 @@ one_node_for_each_place m u fine s sound n q work k e = each_place m u fine s so
 
 -- the schema of a Root that is one of 0 to 7 is not refused
 passes : (w : New) (a : Result Node Refusal) → SchemaThere w → a ≡ schema_first w a
-passes (root q) a h = sym (cond_true (leb q 7) a _ (le_leb q 7 h))
+passes (root q) a h = sym (cond-true (leb q 7) a _ (le-leb q 7 h))
 passes (literal t v) a h = refl
 passes (get_item name) a h = refl
 passes (cast t) a h = refl

@@ -1,6 +1,6 @@
 -- A node at which a binding is refused, and the store that those before it came to.
 use Rattle.std.proofs.Common.{◌≡◌, ℕ, ◌+◌, ◌<◌, true, List, [], ◌∷◌, map, length, Some, Ok, Err, Result, sym, ap, ◌∙◌, subst, inl, inr, arith}
-use lib.ListN.{length_map}
+use lib.ListN.{length-map}
 use Rattle.vocabulary.specs.declared.nodes.Node.{Node}
 use Rattle.vocabulary.specs.declared.refusals.Refusal.{Refusal}
 use Rattle.vocabulary.specs.Nodes.{padded}
@@ -53,7 +53,7 @@ module _ (m : Meaning) (q : ℕ) (text : List ℕ) where
   pub older_tree : (x : UnboundNode) (xs : List UnboundNode) (n : ℕ) → n < length xs
       → trees_in m q text (x ∷ xs) n ≡ trees_in m q text xs n
   older_tree x xs n l =
-      let e : length (map (seen q) xs) ≡ length xs = length_map xs (seen q) in
+      let e : length (map (seen q) xs) ≡ length xs = length-map xs (seen q) in
       tree_older text (seen q x) (map (seen q) xs) n (omega arith)
 
   -- one more node in front, and from a store before

@@ -1,7 +1,7 @@
 -- What one step of binding does: a node made over children that are bound.
-use Rattle.std.proofs.Common.{◌≡◌, ℕ, suc, ◌+◌, ◌<◌, ◌≤◌, min, true, List, [], ◌∷◌, ◌++◌, length, take, drop, replicate, Some, Ok, Err, Result, sym, refl, ap, ◌∙◌, subst, append_assoc, arith, length_append, length_drop, length_take}
+use Rattle.std.proofs.Common.{◌≡◌, ℕ, suc, ◌+◌, ◌<◌, ◌≤◌, min, true, List, [], ◌∷◌, ◌++◌, length, take, drop, replicate, Some, Ok, Err, Result, sym, refl, ap, ◌∙◌, subst, append_assoc, arith, length-append, length-drop, length-take}
 use Rattle.std.proofs.lemmas.List.{take_at, take_all}
-use Rattle.std.proofs.lemmas.Bool.{eqb_true}
+use Rattle.std.proofs.lemmas.Bool.{eqb-true}
 use Rattle.vocabulary.specs.declared.nodes.Function.{Function}
 use Rattle.vocabulary.specs.declared.nodes.Function.TheVariants.{Root, Literal, GetItem, Cast, Binary, Between, Host}
 use Rattle.vocabulary.specs.declared.nodes.Node.{Node}
@@ -51,14 +51,14 @@ grows_more from s x bs g = record {
 node_under : (newer xs : List Node) (n : ℕ) → n < length xs → node_among (newer ++ xs) n ≡ node_among xs n
 node_under [] xs n l = refl
 node_under (x ∷ newer) xs n l =
-    let h : n < length (newer ++ xs) = simp length_append (omega arith) in
+    let h : n < length (newer ++ xs) = simp length-append (omega arith) in
     node_older x (newer ++ xs) n h ∙ node_under newer xs n l
 
 tree_under : (text : List ℕ) (newer xs : List Node) (n : ℕ) → n < length xs
     → tree_among text (newer ++ xs) n ≡ tree_among text xs n
 tree_under text [] xs n l = refl
 tree_under text (x ∷ newer) xs n l =
-    let h : n < length (newer ++ xs) = simp length_append (omega arith) in
+    let h : n < length (newer ++ xs) = simp length-append (omega arith) in
     tree_older text x (newer ++ xs) n h ∙ tree_under text newer xs n l
 
 -- older nodes stay in a store that grows
@@ -90,7 +90,7 @@ head_asked q text (Host c) = refl
 -- so many numbers, at most eight, with zeros behind
 module _ (js : List ℕ) (n : ℕ) (long : length js ≡ n) (few : n ≤ 8) where
   pub padded_long : length (padded js n) ≡ 8
-  padded_long = simp (length_append, length_take, length_drop, long) (omega arith)
+  padded_long = simp (length-append, length-take, length-drop, long) (omega arith)
 
   pub padded_back : named (padded js n) n ≡ js
   padded_back =
@@ -105,7 +105,7 @@ module _ (m : Meaning) (f g : ℕ → Expr) where
   pub heads_agree : (h : Head) (js ks : List ℕ) → length js ≡ length ks → head_counts m h (length ks) ≡ true
       → trees_by f js ≡ trees_by g ks → shape_tree f (shaped h js) ≡ shape_tree g (shaped h ks)
   heads_agree (join o) js ks l c e =
-      let two = eqb_true (length ks) 2 c in
+      let two = eqb-true (length ks) 2 c in
       let (a, b, x) = pair js (l ∙ two) in
       let (i, j, y) = pair ks two in
       let w : cons (f a) (cons (f b) nil) ≡ cons (g i) (cons (g j) nil) =
@@ -122,7 +122,7 @@ module _ (m : Meaning) (f g : ℕ → Expr) where
 pub shape_size : (m : Meaning) (g : ℕ → Expr) (h : Head) (ks : List ℕ) → head_counts m h (length ks) ≡ true
     → size (shape_tree g (shaped h ks)) ≡ suc (sizes (trees_by g ks))
 shape_size m g (join o) ks c =
-    let (i, j, y) = pair ks (eqb_true (length ks) 2 c) in
+    let (i, j, y) = pair ks (eqb-true (length ks) 2 c) in
     let P : List ℕ → Type 0 = λ z. size (shape_tree g (shaped (join o) z)) ≡ suc (sizes (trees_by g z)) in
     subst P (sym y) (omega arith)
 shape_size m g (over f) ks c = refl

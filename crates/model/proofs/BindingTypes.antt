@@ -1,6 +1,6 @@
 -- A tree in which a node does not bind does not bind.
-use Rattle.std.proofs.Common.{◌≡◌, ℕ, true, List, [], ◌∷◌, length, Some, None, Option, sym, refl, ap, ◌∙◌, subst, inl, inr, arith, length_take}
-use Rattle.std.proofs.lemmas.Bool.{eqb_true}
+use Rattle.std.proofs.Common.{◌≡◌, ℕ, true, List, [], ◌∷◌, length, Some, None, Option, sym, refl, ap, ◌∙◌, subst, inl, inr, arith, length-take}
+use Rattle.std.proofs.lemmas.Bool.{eqb-true}
 use Rattle.std.specs.Option.{option_map}
 use Rattle.vocabulary.specs.declared.refusals.BindingRefusal.TheVariants.{DoesNotBind}
 use Rattle.vocabulary.specs.declared.refusals.Refusal.{Refusal}
@@ -33,7 +33,7 @@ use Rattle.model.proofs.BindingCauses.{binding_refuses_for_causes}
 shape_below : (n : ℕ) (h : Head) (ks : List ℕ) → head_counts any_host h (length ks) ≡ true → Below n ks
     → Below n (shape_kids (shaped h ks))
 shape_below n (join o) ks c w =
-    let (i, j, e) = pair ks (eqb_true (length ks) 2 c) in
+    let (i, j, e) = pair ks (eqb-true (length ks) 2 c) in
     subst (λ (z : List ℕ). Below n (shape_kids (shaped (join o) z))) (sym e) (subst (Below n) e w)
 shape_below n (over f) ks c w = w
 
@@ -41,7 +41,7 @@ module _ (q : ℕ) (u : UnboundStore) (n : ℕ) (x : UnboundNode) (fine : SoundU
   pub kids_counted : head_counts any_host (head_for q u x) (length (unbound_kids x)) ≡ true
   kids_counted =
       let few = fine.few in
-      let long : length (unbound_kids x) ≡ x.child_count = simp (length_take, fine.eight) (omega arith) in
+      let long : length (unbound_kids x) ≡ x.child_count = simp (length-take, fine.eight) (omega arith) in
       ap (head_counts any_host (head_for q u x)) long ∙ fine.counted
 
   -- an unbound node's tree is its shape's, over the trees of its children
@@ -80,7 +80,7 @@ module _ (m : Meaning) (ss : Schemas) (f : ℕ → Expr) (k : ℕ) (none : typed
   shape_none : (h : Head) (ks : List ℕ) → head_counts any_host h (length ks) ≡ true → OneOf k ks
       → typed m ss (shape_tree f (shaped h ks)) ≡ None
   shape_none (join o) ks c w =
-      let (i, j, e) = pair ks (eqb_true (length ks) 2 c) in
+      let (i, j, e) = pair ks (eqb-true (length ks) 2 c) in
       ap (λ (z : List ℕ). typed m ss (shape_tree f (shaped (join o) z))) e
       ∙ two_none o i j (subst (OneOf k) e w)
   shape_none (over g) ks c w =

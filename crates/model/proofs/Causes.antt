@@ -1,6 +1,6 @@
 -- Making and rebuilding are refused exactly for their causes.
 use Rattle.std.proofs.Common.{◌≡◌, ℕ, zero, suc, leb, List, [], length, take, Some, None, Ok, Err, Option, Result, sym, refl, ap, ◌∙◌, subst, inl, inr, arith}
-use Rattle.std.proofs.lemmas.Bool.{leb_true, leb_false, le_leb, lt_leb, cond_true, cond_false, cases_lt}
+use Rattle.std.proofs.lemmas.Bool.{leb-true, leb-false, le-leb, lt-leb, cond-true, cond-false, cases_lt}
 use Rattle.vocabulary.specs.declared.nodes.Function.{Function}
 use Rattle.vocabulary.specs.declared.nodes.Function.TheVariants.{Root, Literal, GetItem, Cast, Binary, Between, Host}
 use Rattle.vocabulary.specs.declared.nodes.Node.{Node}
@@ -31,7 +31,7 @@ entered_refused bs s (Ok x) r e = err_ok r _ (sym e)
 entered_refused bs s (Err q) r e = ap Err (err_same e)
 
 schema_passes : (w : New) (a : Result Node Refusal) → SchemaThere w → schema_first w a ≡ a
-schema_passes (root q) a h = cond_true (leb q 7) a _ (le_leb q 7 h)
+schema_passes (root q) a h = cond-true (leb q 7) a _ (le-leb q 7 h)
 schema_passes (literal t v) a h = refl
 schema_passes (get_item name) a h = refl
 schema_passes (cast t) a h = refl
@@ -50,8 +50,8 @@ module _ (m : Meaning) (s : Store) (sound : Sound m s) (cs : List ℕ) (n : ℕ)
       → RefusedNew m s w cs n r
   schema_refused (root q) r h =
       elim (either (leb q 7) _ _ r h) [
-        | inl v ↦ subst (RefusedNew m s (root q) cs n) v.1 (no_schema q refl (leb_false q 7 v.0))
-        | inr v ↦ RefusedNew.of_the_tree (leb_true q 7 v.0) (planned (root q) r v.1)
+        | inl v ↦ subst (RefusedNew m s (root q) cs n) v.1 (no_schema q refl (leb-false q 7 v.0))
+        | inr v ↦ RefusedNew.of_the_tree (leb-true q 7 v.0) (planned (root q) r v.1)
       ]
   schema_refused (literal t v) r h = RefusedNew.of_the_tree tt (planned (literal t v) r h)
   schema_refused (get_item name) r h = RefusedNew.of_the_tree tt (planned (get_item name) r h)
@@ -64,7 +64,7 @@ module _ (m : Meaning) (s : Store) (sound : Sound m s) (cs : List ℕ) (n : ℕ)
       → schema_first w (build m (new_plan w cs n s) s) ≡ Err r
   new_refused w r (no_schema q e h) =
       ap (λ (z : New). schema_first z (build m (new_plan w cs n s) s)) e
-      ∙ cond_false (leb q 7) _ _ (lt_leb q 7 h)
+      ∙ cond-false (leb q 7) _ _ (lt-leb q 7 h)
   new_refused w r (RefusedNew.of_the_tree h c) =
       schema_passes w _ h
       ∙ is_refused m s sound (new_plan w cs n s) eight (new_tree (tree s) cs n w)

@@ -1,6 +1,6 @@
 -- The records of children that are there, and what they say of the children's trees.
 use Rattle.std.proofs.Common.{◌≡◌, ℕ, suc, ◌+◌, max, true, List, [], ◌∷◌, length, Some, None, Ok, Err, Option, Result, sym, refl, ap, ◌∙◌, subst, arith}
-use Rattle.std.proofs.lemmas.Bool.{eqb_true}
+use Rattle.std.proofs.lemmas.Bool.{eqb-true}
 use Rattle.vocabulary.specs.declared.nodes.Node.{Node}
 use Rattle.meaning.specs.Hosts.{Meaning}
 use Rattle.meaning.specs.Trees.{logic, depth, depths, size, sizes}
@@ -138,7 +138,7 @@ module _ (m : Meaning) (s : Store) (sound : Sound m s) where
       → looked_up s ks ≡ Ok xs
       → typed m s.schemas (shape_tree (tree s) (shaped h ks)) ≡ head_type m s.schemas h (types_of xs)
   type_is (join o) ks xs c e =
-      let (i, j, w) = pair ks (eqb_true (length ks) 2 c) in
+      let (i, j, w) = pair ks (eqb-true (length ks) 2 c) in
       let P : List ℕ → Type 0 = λ z. typed m s.schemas (shape_tree (tree s) (shaped (join o) z))
       ≡ of_two None logic_type (types_of xs) in
       subst P (sym w) (join_type o i j xs (ap (looked_up s) (sym w) ∙ e))
@@ -147,7 +147,7 @@ module _ (m : Meaning) (s : Store) (sound : Sound m s) where
   pub depth_is : (h : Head) (ks : List ℕ) (xs : List Node) → head_counts m h (length ks) ≡ true
       → looked_up s ks ≡ Ok xs → suc (deepest xs) ≡ depth (shape_tree (tree s) (shaped h ks))
   depth_is (join o) ks xs c e =
-      let (i, j, w) = pair ks (eqb_true (length ks) 2 c) in
+      let (i, j, w) = pair ks (eqb-true (length ks) 2 c) in
       join_depth o i j xs (ap (looked_up s) (sym w) ∙ e)
       ∙ ap (λ (z : List ℕ). depth (shape_tree (tree s) (shaped (join o) z))) (sym w)
   depth_is (over f) ks xs c e = ap suc (depths_are ks xs e)
@@ -155,7 +155,7 @@ module _ (m : Meaning) (s : Store) (sound : Sound m s) where
   pub size_is : (h : Head) (ks : List ℕ) (xs : List Node) → head_counts m h (length ks) ≡ true
       → looked_up s ks ≡ Ok xs → suc (total_size xs) ≡ size (shape_tree (tree s) (shaped h ks))
   size_is (join o) ks xs c e =
-      let (i, j, w) = pair ks (eqb_true (length ks) 2 c) in
+      let (i, j, w) = pair ks (eqb-true (length ks) 2 c) in
       join_size o i j xs (ap (looked_up s) (sym w) ∙ e)
       ∙ ap (λ (z : List ℕ). size (shape_tree (tree s) (shaped (join o) z))) (sym w)
   size_is (over f) ks xs c e = ap suc (sizes_are ks xs e)

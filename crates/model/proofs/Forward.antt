@@ -1,7 +1,7 @@
 -- The records as they lie oldest first.
 use Rattle.std.proofs.Common.{◌≡◌, ℕ, zero, suc, Bool, true, false, cond, eqb, List, [], ◌∷◌, ◌++◌, reverse, length, Some, sym, refl, ap, ◌∙◌, arith}
-use Rattle.std.proofs.lemmas.List.{reverse_append, length_reverse}
-use Rattle.std.proofs.lemmas.Bool.{eqb_true, eqb_false}
+use Rattle.std.proofs.lemmas.List.{reverse-append, length-reverse}
+use Rattle.std.proofs.lemmas.Bool.{eqb-true, eqb-false}
 use Rattle.vocabulary.specs.declared.nodes.Node.{Node}
 use Rattle.meaning.specs.Lists.{nth}
 use Rattle.model.specs.Stores.{node_among}
@@ -23,15 +23,15 @@ forward : (xs : List Node) (n : ℕ) → node_among xs n ≡ nth (reverse xs) n
 unfolding node_among
 forward [] n = refl
 forward (x ∷ xs) n =
-    go (forward xs n) (eqb n (length xs)) refl ∙ ap (λ (z : List Node). nth z n) (sym (reverse_append (x ∷ []) xs))
+    go (forward xs n) (eqb n (length xs)) refl ∙ ap (λ (z : List Node). nth z n) (sym (reverse-append (x ∷ []) xs))
   where
     go : node_among xs n ≡ nth (reverse xs) n → (b : Bool) → eqb n (length xs) ≡ b
         → cond b (Some x) (node_among xs n) ≡ nth (reverse xs ++ (x ∷ [])) n
     go f true e =
-        let h : n ≡ length (reverse xs) = eqb_true n (length xs) e ∙ sym (length_reverse xs) in
+        let h : n ≡ length (reverse xs) = eqb-true n (length xs) e ∙ sym (length-reverse xs) in
         sym (nth_last (reverse xs) x n h)
     go f false e =
-        f ∙ sym (nth_other (reverse xs) x n (λ i. eqb_false n (length xs) e (i ∙ length_reverse xs)))
+        f ∙ sym (nth_other (reverse xs) x n (λ i. eqb-false n (length xs) e (i ∙ length-reverse xs)))
 
 pub records_lie_forward : RecordsLieForward
 records_lie_forward s n = forward s.nodes n

@@ -1,6 +1,6 @@
 -- What is granted is the tree asked for, under the next number.
 use Rattle.std.proofs.Common.{◌≡◌, ℕ, ◌≤◌, min, true, List, [], ◌∷◌, length, get_or, take, Ok, Err, Result, sym, refl, ap, ◌∙◌, arith}
-use Rattle.std.proofs.lemmas.Bool.{eqb_true}
+use Rattle.std.proofs.lemmas.Bool.{eqb-true}
 use Rattle.vocabulary.specs.declared.nodes.Node.{Node}
 use Rattle.vocabulary.specs.declared.operators.Family.{Family}
 use Rattle.vocabulary.specs.declared.operators.Family.TheVariants.{Compare, Connect, Compute}
@@ -42,24 +42,24 @@ module _ (m : Meaning) (f : ℕ → Expr) (cs : List ℕ) (n : ℕ) (eight : len
   family_tree : (o : Family) → head_counts m (family_head o) n ≡ true
       → shape_tree f (shaped (family_head o) (named cs n)) ≡ of_family o (f (get_or cs 0 0)) (f (get_or cs 1 0))
   family_tree (Compare c) h =
-      ap (λ (ks : List ℕ). node (Fn.compare c) (trees_by f ks)) (named_two cs n eight (eqb_true n 2 h))
+      ap (λ (ks : List ℕ). node (Fn.compare c) (trees_by f ks)) (named_two cs n eight (eqb-true n 2 h))
   family_tree (Connect o) h =
-      ap (λ (ks : List ℕ). shape_tree f (shaped (join o) ks)) (named_two cs n eight (eqb_true n 2 h))
+      ap (λ (ks : List ℕ). shape_tree f (shaped (join o) ks)) (named_two cs n eight (eqb-true n 2 h))
   family_tree (Compute o) h =
-      ap (λ (ks : List ℕ). node (Fn.compute o) (trees_by f ks)) (named_two cs n eight (eqb_true n 2 h))
+      ap (λ (ks : List ℕ). node (Fn.compute o) (trees_by f ks)) (named_two cs n eight (eqb-true n 2 h))
 
   -- what a new node computes of the children named is the tree asked for
   pub asked_tree : (w : New) → head_counts m (new_head w) n ≡ true
       → shape_tree f (shaped (new_head w) (named cs n)) ≡ new_tree f cs n w
-  asked_tree (root q) h = ap (λ (z : ℕ). node (Fn.root q) (trees_by f (named cs z))) (eqb_true n 0 h)
-  asked_tree (literal t v) h = ap (λ (z : ℕ). node (Fn.literal t v) (trees_by f (named cs z))) (eqb_true n 0 h)
+  asked_tree (root q) h = ap (λ (z : ℕ). node (Fn.root q) (trees_by f (named cs z))) (eqb-true n 0 h)
+  asked_tree (literal t v) h = ap (λ (z : ℕ). node (Fn.literal t v) (trees_by f (named cs z))) (eqb-true n 0 h)
   asked_tree (get_item name) h =
-      ap (λ (ks : List ℕ). node (Fn.get_item name) (trees_by f ks)) (named_one cs n eight (eqb_true n 1 h))
+      ap (λ (ks : List ℕ). node (Fn.get_item name) (trees_by f ks)) (named_one cs n eight (eqb-true n 1 h))
   asked_tree (cast t) h =
-      ap (λ (ks : List ℕ). node (Fn.cast t) (trees_by f ks)) (named_one cs n eight (eqb_true n 1 h))
+      ap (λ (ks : List ℕ). node (Fn.cast t) (trees_by f ks)) (named_one cs n eight (eqb-true n 1 h))
   asked_tree (binary o) h = family_tree (family_of o) h
   asked_tree (between o) h =
-      ap (λ (ks : List ℕ). node (Fn.between o) (trees_by f ks)) (named_three cs n eight (eqb_true n 3 h))
+      ap (λ (ks : List ℕ). node (Fn.between o) (trees_by f ks)) (named_three cs n eight (eqb-true n 3 h))
   asked_tree (host c) h =
       ap (λ (ks : List ℕ). node (Fn.call c) (trees_by f ks)) (named_all cs n (head_few m (over (Fn.call c)) n h))
 

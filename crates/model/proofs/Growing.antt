@@ -1,7 +1,7 @@
 -- A store that grows by a granted plan stays sound, and its older nodes stay.
-use Rattle.std.proofs.Common.{◌≡◌, ℕ, suc, ◌<◌, ◌≤◌, min, Bool, true, false, eqb, leb, List, [], ◌∷◌, ◌++◌, length, take, drop, replicate, Some, sym, refl, ap, ◌∙◌, subst, arith, length_append, length_drop, length_take}
-use Rattle.std.proofs.lemmas.List.{take_at, length_take_le}
-use Rattle.std.proofs.lemmas.Bool.{eqb_true, eqb_false, leb_true, and_parts}
+use Rattle.std.proofs.Common.{◌≡◌, ℕ, suc, ◌<◌, ◌≤◌, min, Bool, true, false, eqb, leb, List, [], ◌∷◌, ◌++◌, length, take, drop, replicate, Some, sym, refl, ap, ◌∙◌, subst, arith, length-append, length-drop, length-take}
+use Rattle.std.proofs.lemmas.List.{take_at, length-take-le}
+use Rattle.std.proofs.lemmas.Bool.{eqb-true, eqb-false, leb-true, and_parts}
 use Rattle.vocabulary.specs.declared.nodes.Node.{Node}
 use Rattle.vocabulary.specs.Nodes.{padded, text_of}
 use Rattle.meaning.specs.Hosts.{Meaning}
@@ -20,31 +20,31 @@ use Rattle.model.proofs.Plans.{Built, Honest}
 
 -- a count that is right is at most eight
 pub fn_few : (m : Meaning) (f : Fn) (n : ℕ) → fn_counts m f n ≡ true → n ≤ 8
-fn_few m (root r) n e = omega (arith, eqb_true n 0 e)
-fn_few m (literal t v) n e = omega (arith, eqb_true n 0 e)
-fn_few m (get_item k) n e = omega (arith, eqb_true n 1 e)
-fn_few m (cast t) n e = omega (arith, eqb_true n 1 e)
-fn_few m (compare c) n e = omega (arith, eqb_true n 2 e)
-fn_few m (compute o) n e = omega (arith, eqb_true n 2 e)
-fn_few m (between o) n e = omega (arith, eqb_true n 3 e)
-fn_few m (call c) n e = leb_true n 8 (and_parts (leb n 8) (m.takes c n) e).0
+fn_few m (root r) n e = omega (arith, eqb-true n 0 e)
+fn_few m (literal t v) n e = omega (arith, eqb-true n 0 e)
+fn_few m (get_item k) n e = omega (arith, eqb-true n 1 e)
+fn_few m (cast t) n e = omega (arith, eqb-true n 1 e)
+fn_few m (compare c) n e = omega (arith, eqb-true n 2 e)
+fn_few m (compute o) n e = omega (arith, eqb-true n 2 e)
+fn_few m (between o) n e = omega (arith, eqb-true n 3 e)
+fn_few m (call c) n e = leb-true n 8 (and_parts (leb n 8) (m.takes c n) e).0
 
 pub head_few : (m : Meaning) (h : Head) (n : ℕ) → head_counts m h n ≡ true → n ≤ 8
-head_few m (join o) n e = omega (arith, eqb_true n 2 e)
+head_few m (join o) n e = omega (arith, eqb-true n 2 e)
 head_few m (over f) n e = fn_few m f n e
 
 -- eight numbers, of which some are named
 module _ (cs : List ℕ) (n : ℕ) (eight : length cs ≡ 8) where
   pub named_length : n ≤ 8 → length (named cs n) ≡ n
-  named_length h = simp (length_take, eight) (omega arith)
+  named_length h = simp (length-take, eight) (omega arith)
 
   pub padded_named : take (min n 8) (padded cs (min n 8)) ≡ named cs n
   padded_named =
       let h : min n 8 ≤ length cs = omega arith in
-      take_at (take (min n 8) cs) (drop (min n 8) (replicate 8 0)) (min n 8) (length_take_le (min n 8) cs h)
+      take_at (take (min n 8) cs) (drop (min n 8) (replicate 8 0)) (min n 8) (length-take-le (min n 8) cs h)
 
   pub padded_eight : length (padded cs (min n 8)) ≡ 8
-  padded_eight = simp (length_append, length_take, length_drop, eight) (omega arith)
+  padded_eight = simp (length-append, length-take, length-drop, eight) (omega arith)
 
   pub padded_again : padded cs (min n 8) ≡ padded (padded cs (min n 8)) (min n 8)
   padded_again = ap (λ (z : List ℕ). z ++ drop (min n 8) (replicate 8 0)) (sym padded_named)
@@ -157,18 +157,18 @@ module _ (m : Meaning) (s : Store) (sound : Sound m s) (p : Plan) (honest : Hone
   grown_sound = record {
     each = λ n y e. go n y e (eqb n (length s.nodes)) refl;
     records_within = omega (arith, b.room);
-    text_within = simp length_append b.text_room;
+    text_within = simp length-append b.text_room;
   }
     where
       go : (n : ℕ) (y : Node) → node_at (grown x p.adds s) n ≡ Some y → (c : Bool) → eqb n (length s.nodes) ≡ c
           → SoundNode m (grown x p.adds s) n y
       go n y e true h =
-          let i = eqb_true n (length s.nodes) h in
+          let i = eqb-true n (length s.nodes) h in
           let j : x ≡ y = some_same (sym (node_newest x s.nodes n i) ∙ e) in
           subst (SoundNode m (grown x p.adds s) n) j
           (subst (λ (k : ℕ). SoundNode m (grown x p.adds s) k x) (sym i) newest_sound)
       go n y e false h =
-          let w = eqb_false n (length s.nodes) h in
+          let w = eqb-false n (length s.nodes) h in
           let l = node_below (x ∷ s.nodes) n y e in
           let l2 : n < length s.nodes = omega (arith, w, l) in
           older_sound m s sound x p.adds n y (sym (node_older x s.nodes n l2) ∙ e)

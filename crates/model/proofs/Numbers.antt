@@ -1,6 +1,6 @@
 -- Records and trees by their numbers: one more node changes none of the older ones.
 use Rattle.std.proofs.Common.{◌≡◌, ℕ, suc, ◌<◌, ◌≤◌, Bool, true, false, cond, eqb, List, [], ◌∷◌, length, Some, None, sym, refl, ap, ◌∙◌, arith}
-use Rattle.std.proofs.lemmas.Bool.{eqb_true, eqb_false, eq_eqb, ne_eqb}
+use Rattle.std.proofs.lemmas.Bool.{eqb-true, eqb-false, eq-eqb, ne_eqb}
 use Rattle.vocabulary.specs.declared.nodes.Node.{Node}
 use Rattle.meaning.specs.Trees.{Expr, node}
 use Rattle.meaning.proofs.CaseSplits.{none_some, some_same}
@@ -24,7 +24,7 @@ node_older x xs n h =
 
 pub node_newest : (x : Node) (xs : List Node) (n : ℕ) → n ≡ length xs → node_among (x ∷ xs) n ≡ Some x
 unfolding node_among
-node_newest x xs n h = ap (λ (b : Bool). cond b (Some x) (node_among xs n)) (eq_eqb n (length xs) h)
+node_newest x xs n h = ap (λ (b : Bool). cond b (Some x) (node_among xs n)) (eq-eqb n (length xs) h)
 
 -- a number with a record is below the count of the nodes
 pub node_below : (xs : List Node) (n : ℕ) (x : Node) → node_among xs n ≡ Some x → n < length xs
@@ -34,7 +34,7 @@ node_below (y ∷ xs) n x e = go (node_below xs n x) (eqb n (length xs)) refl e
   where
     go : (node_among xs n ≡ Some x → n < length xs) → (b : Bool) → eqb n (length xs) ≡ b
         → cond b (Some y) (node_among xs n) ≡ Some x → n < suc (length xs)
-    go f true i j = omega (arith, eqb_true n (length xs) i)
+    go f true i j = omega (arith, eqb-true n (length xs) i)
     go f false i j = omega (arith, f j)
 
 -- each number below the count of the nodes has a record
@@ -44,9 +44,9 @@ node_there (y ∷ xs) n h = go (node_there xs n) (eqb n (length xs)) refl
   where
     go : (n < length xs → (x : Node) × (node_among xs n ≡ Some x)) → (b : Bool) → eqb n (length xs) ≡ b
         → (x : Node) × (node_among (y ∷ xs) n ≡ Some x)
-    go f true e = (y, node_newest y xs n (eqb_true n (length xs) e))
+    go f true e = (y, node_newest y xs n (eqb-true n (length xs) e))
     go f false e =
-        let w = eqb_false n (length xs) e in
+        let w = eqb-false n (length xs) e in
         let l : n < length xs = omega (arith, w) in
         let (x, k) = f l in (x, node_older y xs n l ∙ k)
 
@@ -70,7 +70,7 @@ pub tree_newest : (text : List ℕ) (x : Node) (xs : List Node) (n : ℕ) → n 
 unfolding tree_among
 tree_newest text x xs n h =
     ap (λ (b : Bool). cond b (shape_tree (tree_among text xs) (shape text x)) (tree_among text xs n))
-    (eq_eqb n (length xs) h)
+    (eq-eqb n (length xs) h)
 
 -- trees that agree on the children agree on the node
 module _ (f g : ℕ → Expr) (k : ℕ) (h : (n : ℕ) → n < k → f n ≡ g n) where
@@ -110,7 +110,7 @@ shown text (y ∷ xs) n x e w = go (shown text xs n x) (eqb n (length xs)) refl 
         → tree_among text xs n ≡ shape_tree (tree_among text xs) (shape text x))
         → (b : Bool) → eqb n (length xs) ≡ b → cond b (Some y) (node_among xs n) ≡ Some x
         → tree_among text (y ∷ xs) n ≡ shape_tree (tree_among text (y ∷ xs)) (shape text x)
-    go f true i j = at_newest (eqb_true n (length xs) i) (some_same j)
+    go f true i j = at_newest (eqb-true n (length xs) i) (some_same j)
     go f false i j =
         let l : n < length xs = node_below xs n x j in
         tree_older text y xs n l ∙ f j w

@@ -1,6 +1,6 @@
 -- What a plan that is granted has passed, and that plans say what they record.
-use Rattle.std.proofs.Common.{◌≡◌, ℕ, suc, ◌+◌, ◌<◌, ◌≤◌, Bool, true, false, cond, ◌&&◌, ltb, leb, List, [], ◌∷◌, ◌++◌, length, Some, None, Ok, Err, Option, Result, sym, refl, ap, subst, append_nil, arith, length_append}
-use Rattle.std.proofs.lemmas.Bool.{leb_true, ltb_true, and_parts}
+use Rattle.std.proofs.Common.{◌≡◌, ℕ, suc, ◌+◌, ◌<◌, ◌≤◌, Bool, true, false, cond, ◌&&◌, ltb, leb, List, [], ◌∷◌, ◌++◌, length, Some, None, Ok, Err, Option, Result, sym, refl, ap, subst, append-nil, arith, length-append}
+use Rattle.std.proofs.lemmas.Bool.{leb-true, ltb-true, and_parts}
 use Rattle.vocabulary.specs.declared.nodes.Function.{Function}
 use Rattle.vocabulary.specs.declared.nodes.Function.TheVariants.{Root, Literal, GetItem, Cast, Binary, Between, Host}
 use Rattle.vocabulary.specs.declared.nodes.Node.{Node}
@@ -71,10 +71,10 @@ built m p s x e = children (looked_up s (named p.children p.count)) refl e
           known = b;
           counted = c;
           binds = d;
-          shallow = leb_true (suc (deepest xs)) 256 deep;
-          small = leb_true (suc (total_size xs)) 4096 large;
-          room = ltb_true (length s.nodes) s.records room;
-          text_room = leb_true (length s.text + length p.adds) s.bytes bytes;
+          shallow = leb-true (suc (deepest xs)) 256 deep;
+          small = leb-true (suc (total_size xs)) 4096 large;
+          room = ltb-true (length s.nodes) s.records room;
+          text_room = leb-true (length s.text + length p.adds) s.bytes bytes;
           is = sym (ok_same h5);
         }
 
@@ -139,7 +139,7 @@ module _ (m : Meaning) (s : Store) where
   literal_ends (bool b) = tt
   literal_ends (signed z) = tt
   literal_ends (unsigned n) = tt
-  literal_ends (text bs) = simp length_append (omega arith)
+  literal_ends (text bs) = simp length-append (omega arith)
   literal_ends (ext k z) = tt
   literal_ends (whole r) = tt
 
@@ -154,7 +154,7 @@ module _ (m : Meaning) (s : Store) where
   }
   new_honest (get_item name) cs n = record {
     computes = λ t ts e. ap (λ (z : List ℕ). over (Fn.get_item z)) (part_behind s.text name);
-    ends = simp length_append (omega arith);
+    ends = simp length-append (omega arith);
   }
   new_honest (cast t) cs n = record { computes = λ u ts e. refl; ends = tt }
   new_honest (binary o) cs n = record { computes = λ u ts e. refl; ends = tt }
@@ -167,8 +167,8 @@ module _ (m : Meaning) (s : Store) where
       → head_of (s.text ++ []) u f ≡ head_of s.text t f
   head_again Root t u ts e =
       ap (λ (z : ℕ). over (Fn.root z)) (root_typed m s.schemas (carried t.kind) ts u e)
-  head_again (Literal w v) t u ts e = rw append_nil refl
-  head_again (GetItem name) t u ts e = rw append_nil refl
+  head_again (Literal w v) t u ts e = rw append-nil refl
+  head_again (GetItem name) t u ts e = rw append-nil refl
   head_again (Cast w) t u ts e = refl
   head_again (Binary o) t u ts e = refl
   head_again (Between o) t u ts e = refl
@@ -177,5 +177,5 @@ module _ (m : Meaning) (s : Store) where
   pub old_honest : (k : ℕ) (x : Node) (cs : List ℕ) (n : ℕ) → SoundNode m s k x → Honest m (old_plan k x cs n s) s
   old_honest k x cs n sound = record {
     computes = λ t ts e. head_again x.function x.dtype t ts e;
-    ends = subst (λ (z : List ℕ). EndsWithin z (text_of x.function)) (sym (append_nil s.text)) sound.ends;
+    ends = subst (λ (z : List ℕ). EndsWithin z (text_of x.function)) (sym (append-nil s.text)) sound.ends;
   }

@@ -1,6 +1,6 @@
 -- A plan is refused exactly for its causes.
 use Rattle.std.proofs.Common.{◌≡◌, ℕ, suc, ◌+◌, ◌≤◌, true, false, ltb, leb, List, length, Some, None, Ok, Err, Option, Result, sym, refl, ap, ◌∙◌, subst, inl, inr, arith}
-use Rattle.std.proofs.lemmas.Bool.{leb_true, leb_false, ltb_true, ltb_false, le_leb, lt_leb, lt_ltb, le_ltb, cond_true, cond_false}
+use Rattle.std.proofs.lemmas.Bool.{leb-true, leb-false, ltb-true, ltb-false, le-leb, lt-leb, lt-ltb, le-ltb, cond-true, cond-false}
 use Rattle.vocabulary.specs.declared.nodes.Node.{Node}
 use Rattle.vocabulary.specs.declared.refusals.Refusal.{Refusal}
 use Rattle.vocabulary.specs.declared.types.DType.{DType}
@@ -59,23 +59,23 @@ module _ (m : Meaning) (s : Store) (sound : Sound m s) (p : Plan) (eight : lengt
     sized_refused k t b r h =
         elim (either (leb (suc (deepest xs)) 256) _ _ r h) [
           | inl w ↦ subst (RefusedPlan m s p e) w.1
-              (too_deep k t b (omega (arith, depth_of, leb_false (suc (deepest xs)) 256 w.0)))
+              (too_deep k t b (omega (arith, depth_of, leb-false (suc (deepest xs)) 256 w.0)))
           | inr w ↦
-              let d : depth e ≤ 256 = omega (arith, depth_of, leb_true (suc (deepest xs)) 256 w.0) in
+              let d : depth e ≤ 256 = omega (arith, depth_of, leb-true (suc (deepest xs)) 256 w.0) in
               elim (either (leb (suc (total_size xs)) 4096) _ _ r w.1) [
                 | inl v ↦ subst (RefusedPlan m s p e) v.1
-                    (too_large k t b d (omega (arith, size_of, leb_false (suc (total_size xs)) 4096 v.0)))
+                    (too_large k t b d (omega (arith, size_of, leb-false (suc (total_size xs)) 4096 v.0)))
                 | inr v ↦
-                    let z : size e ≤ 4096 = omega (arith, size_of, leb_true (suc (total_size xs)) 4096 v.0) in
+                    let z : size e ≤ 4096 = omega (arith, size_of, leb-true (suc (total_size xs)) 4096 v.0) in
                     let f : FinePlan m s p e = record { counted = k; type = t; binds = b; shallow = d; small = z } in
                     elim (either (ltb (length s.nodes) s.records) _ _ r v.1) [
                       | inl u ↦ subst (RefusedPlan m s p e) u.1
-                          (records_full f (ltb_false (length s.nodes) s.records u.0))
+                          (records_full f (ltb-false (length s.nodes) s.records u.0))
                       | inr u ↦
                           elim (either (leb (length s.text + length p.adds) s.bytes) _ _ r u.1) [
                             | inl q ↦ subst (RefusedPlan m s p e) q.1
-                                (text_full f (ltb_true (length s.nodes) s.records u.0)
-                                (leb_false (length s.text + length p.adds) s.bytes q.0))
+                                (text_full f (ltb-true (length s.nodes) s.records u.0)
+                                (leb-false (length s.text + length p.adds) s.bytes q.0))
                             | inr q ↦ err_ok r _ (sym q.1)
                           ]
                     ]
@@ -119,8 +119,8 @@ module _ (m : Meaning) (s : Store) (sound : Sound m s) (p : Plan) (eight : lengt
       → build m p s ≡ bound p s xs (typed m s.schemas e)
   reaches_types k xs a =
       reaches_children xs a
-      ∙ cond_true (head_known m p.head) _ _ k.known
-      ∙ cond_true (head_counts m p.head p.count) _ _ k.counts
+      ∙ cond-true (head_known m p.head) _ _ k.known
+      ∙ cond-true (head_counts m p.head p.count) _ _ k.counts
       ∙ ap (bound p s xs) (sym (type_of_tree xs a k.counts))
 
   reaches_sizes : (k : CountedPlan m s p) (xs : List Node) → looked_up s (named p.children p.count) ≡ Ok xs
@@ -129,11 +129,11 @@ module _ (m : Meaning) (s : Store) (sound : Sound m s) (p : Plan) (eight : lengt
 
   within_depth : (k : CountedPlan m s p) (xs : List Node) → looked_up s (named p.children p.count) ≡ Ok xs
       → depth e ≤ 256 → leb (suc (deepest xs)) 256 ≡ true
-  within_depth k xs a d = le_leb (suc (deepest xs)) 256 (omega (arith, depth_of xs a k.counts))
+  within_depth k xs a d = le-leb (suc (deepest xs)) 256 (omega (arith, depth_of xs a k.counts))
 
   within_size : (k : CountedPlan m s p) (xs : List Node) → looked_up s (named p.children p.count) ≡ Ok xs
       → size e ≤ 4096 → leb (suc (total_size xs)) 4096 ≡ true
-  within_size k xs a d = le_leb (suc (total_size xs)) 4096 (omega (arith, size_of xs a k.counts))
+  within_size k xs a d = le-leb (suc (total_size xs)) 4096 (omega (arith, size_of xs a k.counts))
 
   -- a cause refuses
   pub is_refused : (r : Refusal) → RefusedPlan m s p e r → build m p s ≡ Err r
@@ -143,39 +143,39 @@ module _ (m : Meaning) (s : Store) (sound : Sound m s) (p : Plan) (eight : lengt
       (ap (looked_up s) f.split ∙ first_missing s f.front k f.back f.there f.missing)
   is_refused r (no_code w h) =
       let (xs, a) = below_found s (named p.children p.count) w in
-      reaches_children xs a ∙ cond_false (head_known m p.head) _ _ h
+      reaches_children xs a ∙ cond-false (head_known m p.head) _ _ h
   is_refused r (wrong_count w h c) =
       let (xs, a) = below_found s (named p.children p.count) w in
-      reaches_children xs a ∙ cond_true (head_known m p.head) _ _ h
-      ∙ cond_false (head_counts m p.head p.count) _ _ c
+      reaches_children xs a ∙ cond-true (head_known m p.head) _ _ h
+      ∙ cond-false (head_counts m p.head p.count) _ _ c
   is_refused r (unbound k b) =
       let (xs, a) = below_found s (named p.children p.count) k.there in
       reaches_types k xs a ∙ ap (bound p s xs) b
   is_refused r (too_deep k t b d) =
       let (xs, a) = below_found s (named p.children p.count) k.there in
       let h : leb (suc (deepest xs)) 256 ≡ false =
-      lt_leb (suc (deepest xs)) 256 (omega (arith, depth_of xs a k.counts)) in
-      reaches_sizes k xs a t b ∙ cond_false (leb (suc (deepest xs)) 256) _ _ h
+      lt-leb (suc (deepest xs)) 256 (omega (arith, depth_of xs a k.counts)) in
+      reaches_sizes k xs a t b ∙ cond-false (leb (suc (deepest xs)) 256) _ _ h
   is_refused r (too_large k t b d z) =
       let (xs, a) = below_found s (named p.children p.count) k.there in
       let h : leb (suc (total_size xs)) 4096 ≡ false =
-      lt_leb (suc (total_size xs)) 4096 (omega (arith, size_of xs a k.counts)) in
+      lt-leb (suc (total_size xs)) 4096 (omega (arith, size_of xs a k.counts)) in
       reaches_sizes k xs a t b
-      ∙ cond_true (leb (suc (deepest xs)) 256) _ _ (within_depth k xs a d)
-      ∙ cond_false (leb (suc (total_size xs)) 4096) _ _ h
+      ∙ cond-true (leb (suc (deepest xs)) 256) _ _ (within_depth k xs a d)
+      ∙ cond-false (leb (suc (total_size xs)) 4096) _ _ h
   is_refused r (records_full f h) =
       let k = f.counted in
       let (xs, a) = below_found s (named p.children p.count) k.there in
       reaches_sizes k xs a f.type f.binds
-      ∙ cond_true (leb (suc (deepest xs)) 256) _ _ (within_depth k xs a f.shallow)
-      ∙ cond_true (leb (suc (total_size xs)) 4096) _ _ (within_size k xs a f.small)
-      ∙ cond_false (ltb (length s.nodes) s.records) _ _ (le_ltb (length s.nodes) s.records h)
+      ∙ cond-true (leb (suc (deepest xs)) 256) _ _ (within_depth k xs a f.shallow)
+      ∙ cond-true (leb (suc (total_size xs)) 4096) _ _ (within_size k xs a f.small)
+      ∙ cond-false (ltb (length s.nodes) s.records) _ _ (le-ltb (length s.nodes) s.records h)
   is_refused r (text_full f l h) =
       let k = f.counted in
       let (xs, a) = below_found s (named p.children p.count) k.there in
       reaches_sizes k xs a f.type f.binds
-      ∙ cond_true (leb (suc (deepest xs)) 256) _ _ (within_depth k xs a f.shallow)
-      ∙ cond_true (leb (suc (total_size xs)) 4096) _ _ (within_size k xs a f.small)
-      ∙ cond_true (ltb (length s.nodes) s.records) _ _ (lt_ltb (length s.nodes) s.records l)
-      ∙ cond_false (leb (length s.text + length p.adds) s.bytes) _ _
-      (lt_leb (length s.text + length p.adds) s.bytes h)
+      ∙ cond-true (leb (suc (deepest xs)) 256) _ _ (within_depth k xs a f.shallow)
+      ∙ cond-true (leb (suc (total_size xs)) 4096) _ _ (within_size k xs a f.small)
+      ∙ cond-true (ltb (length s.nodes) s.records) _ _ (lt-ltb (length s.nodes) s.records l)
+      ∙ cond-false (leb (length s.text + length p.adds) s.bytes) _ _
+      (lt-leb (length s.text + length p.adds) s.bytes h)

@@ -1,6 +1,6 @@
 -- What is rebuilt is the old tree over the other children.
-use Rattle.std.proofs.Common.{◌≡◌, ℕ, zero, suc, true, List, [], length, take, Some, None, Ok, Err, Option, Result, sym, refl, ap, ◌∙◌, subst, inl, inr, append_nil, arith, length_take}
-use Rattle.std.proofs.lemmas.Bool.{eqb_true}
+use Rattle.std.proofs.Common.{◌≡◌, ℕ, zero, suc, true, List, [], length, take, Some, None, Ok, Err, Option, Result, sym, refl, ap, ◌∙◌, subst, inl, inr, append-nil, arith, length-take}
+use Rattle.std.proofs.lemmas.Bool.{eqb-true}
 use Rattle.vocabulary.specs.declared.nodes.Function.{Function}
 use Rattle.vocabulary.specs.declared.nodes.Function.TheVariants.{Root, Literal, GetItem, Cast, Binary, Between, Host}
 use Rattle.vocabulary.specs.declared.nodes.Node.{Node}
@@ -24,7 +24,7 @@ use Rattle.model.proofs.Granting.{named_all}
 kids_below : (m : Meaning) (n : ℕ) (h : Head) (ks : List ℕ) → head_counts m h (length ks) ≡ true → Below n ks
     → Below n (shape_kids (shaped h ks))
 kids_below m n (join o) ks c w =
-    let (i, j, e) = pair ks (eqb_true (length ks) 2 c) in
+    let (i, j, e) = pair ks (eqb-true (length ks) 2 c) in
     subst (λ (z : List ℕ). Below n (shape_kids (shaped (join o) z))) (sym e) (subst (Below n) e w)
 kids_below m n (over f) ks c w = w
 
@@ -32,7 +32,7 @@ pub trees_by_shapes : TreesByShapes
 trees_by_shapes m s sound k x e =
     let r = sound.each k x e in
     let h = r.few in
-    let l : length (kids x) ≡ x.child_count = simp (length_take, r.eight) (omega arith) in
+    let l : length (kids x) ≡ x.child_count = simp (length-take, r.eight) (omega arith) in
     let c = ap (head_counts m (head s.text x)) l ∙ r.counted in
     shown s.text s.nodes k x e (kids_below m k (head s.text x) (kids x) c r.older)
 
@@ -40,7 +40,7 @@ trees_by_shapes m s sound k x e =
 pub over_others : (m : Meaning) (f : ℕ → Expr) (h : Head) (ks ls : List ℕ) → head_counts m h (length ls) ≡ true
     → shape_tree f (shaped h ls) ≡ with_operands (shape_tree f (shaped h ks)) (trees_by f ls)
 over_others m f (join o) ks ls c =
-    let (i, j, e) = pair ls (eqb_true (length ls) 2 c) in
+    let (i, j, e) = pair ls (eqb-true (length ls) 2 c) in
     let P : List ℕ → Type 0 = λ z. shape_tree f (shaped (join o) z)
     ≡ with_operands (shape_tree f (shaped (join o) ks)) (trees_by f z) in
     subst P (sym e) refl
@@ -72,7 +72,7 @@ module _ (m : Meaning) (s : Store) (sound : Sound m s) (old : ℕ) (x : Node) (e
             ap (tree (grown y [] s)) (sym number)
             ∙ planned_tree m s sound (old_plan old x cs n s) (old_honest m s old x cs n (sound.each old x e)) eight y b
             ∙ other_tree b.counted;
-        text_is = append_nil s.text;
+        text_is = append-nil s.text;
         new_or_itself = inl (sym number, refl);
       }
 
@@ -82,7 +82,7 @@ module _ (m : Meaning) (s : Store) (sound : Sound m s) (old : ℕ) (x : Node) (e
       let h : head s.text x ≡ over (Fn.root (carried x.dtype.kind)) = ap (head_of s.text x.dtype) f in
       let r = sound.each old x e in
       let c : x.child_count ≡ 0 =
-      eqb_true x.child_count 0
+      eqb-true x.child_count 0
       (sym (ap (λ (z : Head). head_counts m z x.child_count) h) ∙ r.counted) in
       let t : tree s old ≡ node (Fn.root (carried x.dtype.kind)) nil =
       trees_by_shapes m s sound old x e

@@ -1,6 +1,6 @@
 -- Parts of a text: bytes behind it change none, and what is appended is read again.
-use Rattle.std.proofs.Common.{◌≡◌, ℕ, ◌+◌, ◌≤◌, cond, eqb, List, [], ◌∷◌, ◌++◌, length, take, drop, Some, None, Option, refl, ap, ◌∙◌, arith, length_append, length_drop}
-use Rattle.std.proofs.lemmas.List.{take_append_le, drop_append_le, drop_at, take_all}
+use Rattle.std.proofs.Common.{◌≡◌, ℕ, ◌+◌, ◌≤◌, cond, eqb, List, [], ◌∷◌, ◌++◌, length, take, drop, Some, None, Option, refl, ap, ◌∙◌, arith, length-append, length-drop}
+use Rattle.std.proofs.lemmas.List.{take-append-le, drop-append-le, drop_at, take_all}
 use Rattle.vocabulary.specs.declared.nodes.Function.{Function}
 use Rattle.vocabulary.specs.declared.nodes.Function.TheVariants.{Root, Literal, GetItem, Cast, Binary, Between, Host}
 use Rattle.vocabulary.specs.declared.nodes.Node.{Node}
@@ -27,9 +27,9 @@ module _ (all more : List ℕ) where
   pub part_kept : (p : Span) → p.start + p.len ≤ length all → part (all ++ more) p ≡ part all p
   part_kept p h =
       let a : p.start ≤ length all = omega arith in
-      let b : p.len ≤ length (drop p.start all) = simp length_drop (omega arith) in
-      ap (take p.len) (drop_append_le p.start all more a)
-      ∙ take_append_le p.len (drop p.start all) more b
+      let b : p.len ≤ length (drop p.start all) = simp length-drop (omega arith) in
+      ap (take p.len) (drop-append-le p.start all more a)
+      ∙ take-append-le p.len (drop p.start all) more b
 
   pub read_kept : (v : Placed) → EndsWithin all (text_of_value v) → read (all ++ more) [] v ≡ read all [] v
   read_kept placed.Null h = refl
@@ -53,7 +53,7 @@ module _ (all more : List ℕ) where
 
   pub ends_more : (o : Option Span) → EndsWithin all o → EndsWithin (all ++ more) o
   ends_more None h = tt
-  ends_more (Some p) h = simp length_append (omega arith)
+  ends_more (Some p) h = simp length-append (omega arith)
 
   -- the bytes appended are read again
   pub part_behind : part (all ++ more) (behind all more) ≡ more

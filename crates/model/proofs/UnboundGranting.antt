@@ -1,6 +1,6 @@
 -- What is granted in an unbound arena is the tree asked for, or the old one over other children.
-use Rattle.std.proofs.Common.{◌≡◌, ℕ, zero, suc, true, List, [], ◌++◌, length, take, Some, None, Ok, Err, Option, Result, sym, refl, ap, ◌∙◌, inl, inr, append_nil}
-use Rattle.std.proofs.lemmas.Bool.{eqb_true}
+use Rattle.std.proofs.Common.{◌≡◌, ℕ, zero, suc, true, List, [], ◌++◌, length, take, Some, None, Ok, Err, Option, Result, sym, refl, ap, ◌∙◌, inl, inr, append-nil}
+use Rattle.std.proofs.lemmas.Bool.{eqb-true}
 use Rattle.vocabulary.specs.declared.nodes.Function.{Function}
 use Rattle.vocabulary.specs.declared.nodes.Function.TheVariants.{Root, Literal, GetItem, Cast, Binary, Between, Host}
 use Rattle.vocabulary.specs.declared.nodes.Node.{Node}
@@ -51,7 +51,7 @@ unbound_made_as_asked u sound w cs n k eight e = go (build_unbound (new_plan w c
 
 -- what a function computes does not change behind no bytes
 head_again : (q : ℕ) (all : List ℕ) (f : Function) → head_of (all ++ []) (rows q) f ≡ head_of all (rows q) f
-head_again q all f = ap (λ (z : List ℕ). head_of z (rows q) f) (append_nil all)
+head_again q all f = ap (λ (z : List ℕ). head_of z (rows q) f) (append-nil all)
 
 module _ (u : UnboundStore) (sound : SoundUnbound u) (old : ℕ) (x : UnboundNode) (e : unbound_at u old ≡ Some x)
     (cs : List ℕ) (n : ℕ) (eight : length cs ≡ 8) where
@@ -84,7 +84,7 @@ module _ (u : UnboundStore) (sound : SoundUnbound u) (old : ℕ) (x : UnboundNod
             ∙ ap (λ (z : Head). shape_tree (tree_for q u) (shaped z (named cs n)))
             (head_again q u.text x.function)
             ∙ others_for q (same_takes q 0 u.text u.text x.function n ∙ b.counted);
-        text_is = append_nil u.text;
+        text_is = append-nil u.text;
         new_or_itself = inl (sym number, refl);
       }
 
@@ -94,7 +94,7 @@ module _ (u : UnboundStore) (sound : SoundUnbound u) (old : ℕ) (x : UnboundNod
       let r = sound.each q old x e in
       let h : head_of u.text (rows q) x.function ≡ over (Fn.root q) = ap (head_of u.text (rows q)) f in
       let c : x.child_count ≡ 0 =
-      eqb_true x.child_count 0
+      eqb-true x.child_count 0
       (sym (ap (λ (z : Head). head_counts any_host z x.child_count) h) ∙ r.counted) in
       let t : tree_for q u old ≡ node (Fn.root q) nil =
       shape_for q u old x r e

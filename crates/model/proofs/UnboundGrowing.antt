@@ -1,7 +1,7 @@
 -- An unbound arena that grows by a granted plan stays sound, and its older nodes stay.
-use Rattle.std.proofs.Common.{◌≡◌, ℕ, suc, ◌<◌, ◌≤◌, Bool, true, false, eqb, List, [], ◌∷◌, ◌++◌, map, length, Some, sym, refl, ap, ◌∙◌, subst, arith, length_append}
-use lib.ListN.{length_map}
-use Rattle.std.proofs.lemmas.Bool.{eqb_true, eqb_false}
+use Rattle.std.proofs.Common.{◌≡◌, ℕ, suc, ◌<◌, ◌≤◌, Bool, true, false, eqb, List, [], ◌∷◌, ◌++◌, map, length, Some, sym, refl, ap, ◌∙◌, subst, arith, length-append}
+use lib.ListN.{length-map}
+use Rattle.std.proofs.lemmas.Bool.{eqb-true, eqb-false}
 use Rattle.vocabulary.specs.declared.nodes.Node.{Node}
 use Rattle.vocabulary.specs.Nodes.{padded, text_of}
 use Rattle.meaning.specs.Trees.{depth, size}
@@ -45,7 +45,7 @@ module _ (u : UnboundStore) (sound : SoundUnbound u) (x : UnboundNode) (bs : Lis
 
   pub tree_for_stays : (q n : ℕ) → n < length u.nodes → tree_for q (unbound_grown x bs u) n ≡ tree_for q u n
   tree_for_stays q n l =
-      let e : length (map (seen q) u.nodes) ≡ length u.nodes = length_map u.nodes (seen q) in
+      let e : length (map (seen q) u.nodes) ≡ length u.nodes = length-map u.nodes (seen q) in
       tree_older (u.text ++ bs) (seen q x) (map (seen q) u.nodes) n (omega arith) ∙ kept_for q n
 
   -- the new node's tree is that of its shape, over the older trees
@@ -54,7 +54,7 @@ module _ (u : UnboundStore) (sound : SoundUnbound u) (x : UnboundNode) (bs : Lis
       ≡ shape_tree (tree_for q u) (shape (u.text ++ bs) (seen q x))
   newest_for q =
       tree_newest (u.text ++ bs) (seen q x) (map (seen q) u.nodes) (length u.nodes)
-      (sym (length_map u.nodes (seen q)))
+      (sym (length-map u.nodes (seen q)))
       ∙ shapes_same (tree_among (u.text ++ bs) (map (seen q) u.nodes)) (tree_for q u) (kept_for q)
       (shape (u.text ++ bs) (seen q x))
 
@@ -119,7 +119,7 @@ module _ (u : UnboundStore) (sound : SoundUnbound u) (p : Plan) (honest : Honest
       record {
         older =
             subst (Below (length u.nodes)) (sym kids_are)
-            (subst (λ (z : ℕ). Below z ks) (length_map u.nodes (seen 0)) below);
+            (subst (λ (z : ℕ). Below z ks) (length-map u.nodes (seen 0)) below);
         counted =
             ap
             (λ (z : Node).
@@ -152,20 +152,20 @@ module _ (u : UnboundStore) (sound : SoundUnbound u) (p : Plan) (honest : Honest
   unbound_grown_sound = record {
     each = λ q n y e. go q n y e (eqb n (length u.nodes)) refl;
     records_within = omega (arith, b.room);
-    text_within = simp length_append b.text_room;
+    text_within = simp length-append b.text_room;
   }
     where
       go : (q n : ℕ) (y : UnboundNode) → unbound_at (unbound_grown (untyped x) p.adds u) n ≡ Some y
           → (c : Bool) → eqb n (length u.nodes) ≡ c
           → SoundUnboundNode q (unbound_grown (untyped x) p.adds u) n y
       go q n y e true h =
-          let i = eqb_true n (length u.nodes) h in
+          let i = eqb-true n (length u.nodes) h in
           let j : untyped x ≡ y = some_same (sym (unbound_newest (untyped x) u.nodes n i) ∙ e) in
           subst (SoundUnboundNode q (unbound_grown (untyped x) p.adds u) n) j
           (subst (λ (k : ℕ). SoundUnboundNode q (unbound_grown (untyped x) p.adds u) k (untyped x)) (sym i)
           (newest_is_sound q))
       go q n y e false h =
-          let w = eqb_false n (length u.nodes) h in
+          let w = eqb-false n (length u.nodes) h in
           let l = unbound_below (untyped x ∷ u.nodes) n y e in
           let l2 : n < length u.nodes = omega (arith, w, l) in
           older_stays_sound u sound (untyped x) p.adds q n y

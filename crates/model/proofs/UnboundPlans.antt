@@ -1,7 +1,7 @@
 -- What a plan of an unbound node that is granted has passed, and what it records.
-use Rattle.std.proofs.Common.{◌≡◌, ℕ, suc, ◌+◌, ◌<◌, ◌≤◌, max, true, ltb, leb, List, [], ◌∷◌, ◌++◌, length, Some, Ok, Err, Result, sym, refl, ap, ◌∙◌, subst, append_nil, arith, length_append}
-use lib.ListN.{length_map}
-use Rattle.std.proofs.lemmas.Bool.{leb_true, ltb_true, eqb_true}
+use Rattle.std.proofs.Common.{◌≡◌, ℕ, suc, ◌+◌, ◌<◌, ◌≤◌, max, true, ltb, leb, List, [], ◌∷◌, ◌++◌, length, Some, Ok, Err, Result, sym, refl, ap, ◌∙◌, subst, append-nil, arith, length-append}
+use lib.ListN.{length-map}
+use Rattle.std.proofs.lemmas.Bool.{leb-true, ltb-true, eqb-true}
 use Rattle.vocabulary.specs.declared.nodes.Function.{Function}
 use Rattle.vocabulary.specs.declared.nodes.Function.TheVariants.{Root, Literal, GetItem, Cast, Binary, Between, Host}
 use Rattle.vocabulary.specs.declared.nodes.Node.{Node}
@@ -52,15 +52,15 @@ built_unbound p u x e = children (looked_up (against 0 u) (named p.children p.co
         let (large, h3) = checked (leb (suc (total_size xs)) 4096) _ _ x h2 in
         let (room, h4) = checked (ltb (length (against 0 u).nodes) u.records) _ _ x h3 in
         let (bytes, h5) = checked (leb (length u.text + length p.adds) u.bytes) _ _ x h4 in
-        let few = ltb_true (length (against 0 u).nodes) u.records room in
+        let few = ltb-true (length (against 0 u).nodes) u.records room in
         record {
           records = xs;
           there = a;
           counted = c;
-          shallow = leb_true (suc (deepest xs)) 256 deep;
-          small = leb_true (suc (total_size xs)) 4096 large;
-          room = subst (λ (z : ℕ). z < u.records) (length_map u.nodes (seen 0)) few;
-          text_room = leb_true (length u.text + length p.adds) u.bytes bytes;
+          shallow = leb-true (suc (deepest xs)) 256 deep;
+          small = leb-true (suc (total_size xs)) 4096 large;
+          room = subst (λ (z : ℕ). z < u.records) (length-map u.nodes (seen 0)) few;
+          text_room = leb-true (length u.text + length p.adds) u.bytes bytes;
           is = sym (ok_same h5);
         }
 
@@ -86,7 +86,7 @@ held_ends all null = tt
 held_ends all (bool b) = tt
 held_ends all (signed z) = tt
 held_ends all (unsigned n) = tt
-held_ends all (text bs) = simp length_append (omega arith)
+held_ends all (text bs) = simp length-append (omega arith)
 held_ends all (ext e z) = tt
 held_ends all (whole s) = tt
 
@@ -114,7 +114,7 @@ new_takes q (host c) n = refl
 new_ends : (all : List ℕ) (w : New) → EndsWithin (all ++ new_bytes w) (text_of (new_function all w))
 new_ends all (root s) = tt
 new_ends all (literal t v) = held_ends all v
-new_ends all (get_item name) = simp length_append (omega arith)
+new_ends all (get_item name) = simp length-append (omega arith)
 new_ends all (cast t) = tt
 new_ends all (binary o) = tt
 new_ends all (between o) = tt
@@ -143,14 +143,14 @@ pub old_honest_unbound : (u : UnboundStore) (k : ℕ) (x : UnboundNode) (cs : Li
     → EndsWithin u.text (text_of x.function) → HonestUnbound (old_plan k (seen 0 x) cs n (against 0 u)) u
 old_honest_unbound u k x cs n h = record {
   takes = λ q c. same_takes q 0 (u.text ++ []) u.text x.function n ∙ c;
-  ends = subst (λ (z : List ℕ). EndsWithin z (text_of x.function)) (sym (append_nil u.text)) h;
+  ends = subst (λ (z : List ℕ). EndsWithin z (text_of x.function)) (sym (append-nil u.text)) h;
 }
 
 -- depth and size of a counted shape
 pub shape_depth : (g : ℕ → Expr) (h : Head) (ks : List ℕ) → head_counts any_host h (length ks) ≡ true
     → depth (shape_tree g (shaped h ks)) ≡ suc (depths (trees_by g ks))
 shape_depth g (join o) ks c =
-    let (i, j, y) = pair ks (eqb_true (length ks) 2 c) in
+    let (i, j, y) = pair ks (eqb-true (length ks) 2 c) in
     let P : List ℕ → Type 0 = λ z. depth (shape_tree g (shaped (join o) z)) ≡ suc (depths (trees_by g z)) in
     subst P (sym y) (omega arith)
 shape_depth g (over f) ks c = refl

@@ -3,7 +3,7 @@ use Rattle.std.proofs.Common.{◌≡◌, ℕ, ◌+◌, ◌-◌, ◌*◌, ◌^◌
 use Rattle.std.specs.Char.{is_ascii_digit}
 use Rattle.std.specs.Str.{all_ascii_digits}
 use Rattle.std.proofs.lemmas.List.{at_drop_more, at_drop_all}
-use Rattle.std.proofs.lemmas.Bool.{le_ltb, lt_ltb, ltb_false, cond_false, cond_true}
+use Rattle.std.proofs.lemmas.Bool.{le-ltb, lt-ltb, ltb-false, cond-false, cond-true}
 use Rattle.notation.specs.Naturals.{value_from, one_more, natural_from, natural}
 
 -- more digits write no smaller number
@@ -16,8 +16,8 @@ too_large : (n : ℕ) (ds : List ℕ) (b : Bool) → ltb n (2 ^ 64) ≡ false
     → cond (b && ltb (value_from n ds) (2 ^ 64)) (Some (value_from n ds)) None ≡ None
 too_large n ds true h =
     let v = value_from n ds in
-    let large : 2 ^ 64 ≤ v = omega (arith, value_grows n ds, ltb_false n (2 ^ 64) h) in
-    cond_false (ltb v (2 ^ 64)) (Some v) None (le_ltb v (2 ^ 64) large)
+    let large : 2 ^ 64 ≤ v = omega (arith, value_grows n ds, ltb-false n (2 ^ 64) h) in
+    cond-false (ltb v (2 ^ 64)) (Some v) None (le-ltb v (2 ^ 64) large)
 too_large n ds false h = refl
 
 -- what the digits ds write behind n, where the digit before them was one or not, and made n
@@ -54,8 +54,8 @@ digit_refused n xs i h e =
 pub digits_end : (n : ℕ) (xs : List ℕ) (i : ℕ) → length xs ≤ i → n < 2 ^ 64
     → natural_from n (drop i xs) ≡ Some n
 digits_end n xs i h l =
-    at_drop_all (natural_from n) xs i h ∙ cond_true (ltb n (2 ^ 64)) (Some n) None (lt_ltb n (2 ^ 64) l)
+    at_drop_all (natural_from n) xs i h ∙ cond-true (ltb n (2 ^ 64)) (Some n) None (lt-ltb n (2 ^ 64) l)
 
 -- of one digit at least
 pub some_digits : (xs : List ℕ) → false ≡ eqb (length xs) 0 → natural_from 0 xs ≡ natural xs
-some_digits xs h = sym (cond_false (eqb (length xs) 0) None (natural_from 0 xs) (sym h))
+some_digits xs h = sym (cond-false (eqb (length xs) 0) None (natural_from 0 xs) (sym h))

@@ -1,5 +1,5 @@
 -- Adding a column behind the others keeps a schema declared one by one.
-use Rattle.std.proofs.Common.{◌≡◌, ℕ, ◌+◌, ◌<◌, ◌≤◌, true, ◌&&◌, List, [], ◌∷◌, ◌++◌, map, length, take, set, sym, refl, ap, ◌∙◌, append_assoc, append_nil, arith, length_append}
+use Rattle.std.proofs.Common.{◌≡◌, ℕ, ◌+◌, ◌<◌, ◌≤◌, true, ◌&&◌, List, [], ◌∷◌, ◌++◌, map, length, take, set, sym, refl, ap, ◌∙◌, append_assoc, append-nil, arith, length-append}
 use Rattle.std.proofs.lemmas.List.{take_more_set, map_push}
 use Rattle.std.proofs.lemmas.Bool.{and_parts, and_from}
 use Rattle.std.proofs.lemmas.Bool.Decides.{nat_tests}
@@ -18,7 +18,7 @@ fields_push cs n x h = ap (map field_of) (take_more_set cs n x h) ∙ map_push f
 declared_more : (before fs : List Field) (f : Field)
     → declared_after before fs ≡ true → takes (before ++ fs) f ≡ true
     → declared_after before (fs ++ (f ∷ [])) ≡ true
-declared_more before [] f h k = and_from (takes before f) true (rw append_nil at k) refl
+declared_more before [] f h k = and_from (takes before f) true (rw append-nil at k) refl
 declared_more before (g ∷ fs) f h k =
     let p = and_parts (takes before g) (declared_after (before ++ (g ∷ [])) fs) h in
     and_from (takes before g) (declared_after (before ++ (g ∷ [])) (fs ++ (f ∷ []))) p.0
@@ -53,7 +53,7 @@ pushed s x f e h =
     fields_push s.columns s.count x (omega (arith, s.whole))
     ∙ ap (λ (g : Field). fields_of s ++ (g ∷ [])) e
     in
-    let long = length_append (fields_of s) (f ∷ []) in
+    let long = length-append (fields_of s) (f ∷ []) in
     record {
       room = room;
       columns = more;

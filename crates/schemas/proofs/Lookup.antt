@@ -1,7 +1,7 @@
 -- Looking a column up, one step of the loop at a time.
-use Rattle.std.proofs.Common.{◌≡◌, ℕ, ◌+◌, ◌<◌, ◌≤◌, cond, List, map, length, get_or, take, drop, Some, None, Option, sym, ap, ◌∙◌, arith, length_take}
+use Rattle.std.proofs.Common.{◌≡◌, ℕ, ◌+◌, ◌<◌, ◌≤◌, cond, List, map, length, get_or, take, drop, Some, None, Option, sym, ap, ◌∙◌, arith, length-take}
 use Rattle.std.specs.Str.{bytes_eq}
-use Rattle.std.proofs.lemmas.List.{at_drop_more, at_drop_all, get_or_take}
+use Rattle.std.proofs.lemmas.List.{at_drop_more, at_drop_all, get_or-take}
 use Rattle.schemas.specs.declared.column.Column.{Column}
 use Rattle.schemas.specs.Fields.{found_from}
 use Rattle.schemas.specs.Headings.{name_of, field_of}
@@ -17,8 +17,8 @@ pub found_step : (name : List ℕ) (n : ℕ) (cs : List Column) (i : ℕ) (x : C
     ≡ cond (bytes_eq (name_of x) name) (Some (record { place = i; dtype = x.dtype }))
     (found_from (i + 1) name (map field_of (from (i + 1) n cs)))
 found_step name n cs i x h k e =
-    let l : i < length (take n cs) = simp length_take (omega arith) in
-    let g : get_or (take n cs) i x ≡ x = get_or_take n cs i x h ∙ sym e in
+    let l : i < length (take n cs) = simp length-take (omega arith) in
+    let g : get_or (take n cs) i x ≡ x = get_or-take n cs i x h ∙ sym e in
     at_drop_more (λ (ys : List Column). found_from i name (map field_of ys)) (take n cs) i x l
     ∙ ap
     (λ (y : Column). cond (bytes_eq (name_of y) name) (Some (record { place = i; dtype = y.dtype }))
@@ -29,4 +29,4 @@ found_step name n cs i x h k e =
 pub found_end : (name : List ℕ) (n : ℕ) (cs : List Column) (i : ℕ)
     → n ≤ i → found_from i name (map field_of (from i n cs)) ≡ None
 found_end name n cs i h =
-    at_drop_all (λ (ys : List Column). found_from i name (map field_of ys)) (take n cs) i (simp length_take (omega arith))
+    at_drop_all (λ (ys : List Column). found_from i name (map field_of ys)) (take n cs) i (simp length-take (omega arith))

@@ -1,7 +1,7 @@
 -- Each column of a schema is found under its own name, and stays found.
-use Rattle.std.proofs.Common.{◌≡◌, ℕ, zero, suc, ◌+◌, ◌<◌, ◌≤◌, Bool, true, false, cond, List, [], ◌∷◌, ◌++◌, length, get_or, is_some, Some, None, Option, sym, refl, ap, ◌∙◌, append_assoc, arith, length_append}
+use Rattle.std.proofs.Common.{◌≡◌, ℕ, zero, suc, ◌+◌, ◌<◌, ◌≤◌, Bool, true, false, cond, List, [], ◌∷◌, ◌++◌, length, get_or, is_some, Some, None, Option, sym, refl, ap, ◌∙◌, append_assoc, arith, length-append}
 use Rattle.std.specs.Str.{bytes_eq}
-use Rattle.std.proofs.lemmas.Bool.{and_parts, cond_true, cond_false}
+use Rattle.std.proofs.lemmas.Bool.{and_parts, cond-true, cond-false}
 use Rattle.std.proofs.lemmas.Bool.Decides.{nat_tests}
 use Rattle.schemas.specs.declared.found.Found.{Found}
 use Rattle.schemas.specs.AllSchemas.{FoundStaysFound}
@@ -31,7 +31,7 @@ past k name [] rest h = ap (λ n. found_from n name rest) (omega arith)
 past k name (f ∷ before) rest h =
     let other = none_parts (bytes_eq f.name name) _ (found_from (k + 1) name before) h in
     let count : k + 1 + length before ≡ k + suc (length before) = omega arith in
-    cond_false (bytes_eq f.name name) _ _ other.0
+    cond-false (bytes_eq f.name name) _ _ other.0
     ∙ past (k + 1) name before rest other.1
     ∙ ap (λ n. found_from n name rest) count
 
@@ -63,11 +63,11 @@ each_found before (f ∷ fs) h zero d l =
     let p = and_parts (takes before f) (declared_after (before ++ (f ∷ [])) fs) h in
     let count : 0 + length before ≡ length before + 0 = omega arith in
     past 0 f.name before (f ∷ fs) (new_name before f p.0)
-    ∙ cond_true (bytes_eq f.name f.name) _ _ (same_itself f.name)
+    ∙ cond-true (bytes_eq f.name f.name) _ _ (same_itself f.name)
     ∙ ap (λ n. Some (record { place = n; dtype = f.dtype })) count
 each_found before (f ∷ fs) h (suc i) d l =
     let p = and_parts (takes before f) (declared_after (before ++ (f ∷ [])) fs) h in
-    let count : length (before ++ (f ∷ [])) + i ≡ length before + suc i = simp length_append (omega arith) in
+    let count : length (before ++ (f ∷ [])) + i ≡ length before + suc i = simp length-append (omega arith) in
     ap (found (get_or fs i d).name) (sym (append_assoc before (f ∷ []) fs))
     ∙ each_found (before ++ (f ∷ [])) fs p.1 i d (omega arith)
     ∙ ap (λ n. Some (record { place = n; dtype = (get_or fs i d).dtype })) count
@@ -79,7 +79,7 @@ at_most before [] h l = omega arith
 at_most before (f ∷ fs) h l =
     let p = and_parts (takes before f) (declared_after (before ++ (f ∷ [])) fs) h in
     let room = (taken_fits before f p.0).1 in
-    let counted = length_append before (f ∷ []) in
+    let counted = length-append before (f ∷ []) in
     omega (arith, at_most (before ++ (f ∷ [])) fs p.1 (omega arith))
 
 pub names_tell_columns : NamesTellColumns

@@ -1,6 +1,6 @@
 -- Reading and writing one schema of the table.
 use Rattle.std.proofs.Common.{◌≡◌, ℕ, ◌<◌, true, false, List, [], ◌∷◌, ◌++◌, map, length, get_or, set, Ok, Err, Result, sym, ap, ◌∙◌, arith}
-use Rattle.std.proofs.lemmas.List.{map_set, get_or_map, set_get_or}
+use Rattle.std.proofs.lemmas.List.{map-set, get_or-map, set-get_or}
 use Rattle.schemas.specs.declared.tables.Schema.{Schema}
 use Rattle.std.proofs.lemmas.Bool.Decides.{nat_tests}
 use Rattle.vocabulary.specs.declared.refusals.Refusal.{Refusal}
@@ -14,22 +14,22 @@ use Rattle.schemas.specs.Tables.{fields_of}
 -- the columns of the schema at s, read from the table
 pub read_fields : (ss : List Schema) (s : ℕ) (d : Schema) → s < length ss
     → get_or (map fields_of ss) s [] ≡ fields_of (get_or ss s d)
-read_fields ss s d h = get_or_map fields_of ss s d [] h
+read_fields ss s d h = get_or-map fields_of ss s d [] h
 
 -- a schema written back with the same columns changes none
 pub same_fields : (ss : List Schema) (s : ℕ) (d t : Schema) → s < length ss
     → fields_of t ≡ fields_of (get_or ss s d) → map fields_of (set ss s t) ≡ map fields_of ss
 same_fields ss s d t h e =
-    map_set fields_of ss s t
+    map-set fields_of ss s t
     ∙ ap (set (map fields_of ss) s) (e ∙ sym (read_fields ss s d h))
-    ∙ set_get_or (map fields_of ss) s []
+    ∙ set-get_or (map fields_of ss) s []
 
 -- a schema written back with one column more has it behind the others
 pub more_fields : (ss : List Schema) (s : ℕ) (d t : Schema) (f : Field) → s < length ss
     → fields_of t ≡ fields_of (get_or ss s d) ++ (f ∷ [])
     → map fields_of (set ss s t) ≡ set (map fields_of ss) s (get_or (map fields_of ss) s [] ++ (f ∷ []))
 more_fields ss s d t f h e =
-    map_set fields_of ss s t
+    map-set fields_of ss s t
     ∙ ap (set (map fields_of ss) s) (e ∙ ap (λ fs. fs ++ (f ∷ [])) (sym (read_fields ss s d h)))
 
 -- a number that is answered is the one asked, and below 8

@@ -1,6 +1,6 @@
 -- The type of a column, by looking it up.
 use Rattle.std.proofs.Common.{◌≡◌, ℕ, zero, suc, ◌<◌, ◌≤◌, Bool, true, false, cond, ltb, List, [], ◌∷◌, map, length, get_or, Some, None, Option, sym, refl, ap, ◌∙◌, arith}
-use Rattle.std.proofs.lemmas.Bool.{ltb_true, ltb_false}
+use Rattle.std.proofs.lemmas.Bool.{ltb-true, ltb-false}
 use Rattle.std.specs.Option.{option_map}
 use Rattle.vocabulary.specs.declared.types.DType.{DType}
 use Rattle.schemas.specs.AllSchemas.{sought}
@@ -32,10 +32,10 @@ column_sought fss s name l = go (ltb s 8) refl
   where
     go : (b : Bool) → ltb s 8 ≡ b → column_type fss s name ≡ type_found (sought s name fss)
     go true e =
-        let h = ltb_true s 8 e in
+        let h = ltb-true s 8 e in
         ap (column name) (nth_there fss s [] (omega arith)) ∙ rw e refl
     go false e =
-        let h = ltb_false s 8 e in
+        let h = ltb-false s 8 e in
         ap (column name) (nth_past fss s (omega arith)) ∙ rw e refl
 
 -- a schema that there is not has no columns

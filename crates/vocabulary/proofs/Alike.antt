@@ -1,6 +1,6 @@
 -- Types are alike just where their kinds are equal.
 use Rattle.std.proofs.Common.{◌≡◌, ℕ, zero, suc, true, eqb, sym, refl, ap, ◌∙◌}
-use Rattle.std.proofs.lemmas.Bool.{and_parts, and_from, eqb_true, eq_eqb}
+use Rattle.std.proofs.lemmas.Bool.{and_parts, and_from, eqb-true, eq-eqb}
 use Rattle.vocabulary.specs.declared.types.Kind.{Kind}
 use Rattle.vocabulary.specs.declared.types.Kind.TheVariants as k
 use Rattle.vocabulary.specs.Types.{case_of, carried, same_kind, AlikeIsOneKind}
@@ -27,14 +27,14 @@ same_kind_equal : (a b : Kind) → same_kind a b ≡ true → a ≡ b
 same_kind_equal a b h =
     let p = and_parts (eqb (case_of a) (case_of b)) (eqb (carried a) (carried b)) h in
     sym (kind_again a)
-    ∙ ap (λ i. kind_at i (carried a)) (eqb_true (case_of a) (case_of b) p.0)
-    ∙ ap (kind_at (case_of b)) (eqb_true (carried a) (carried b) p.1)
+    ∙ ap (λ i. kind_at i (carried a)) (eqb-true (case_of a) (case_of b) p.0)
+    ∙ ap (kind_at (case_of b)) (eqb-true (carried a) (carried b) p.1)
     ∙ kind_again b
 
 equal_same_kind : (a b : Kind) → a ≡ b → same_kind a b ≡ true
 equal_same_kind a b e =
     and_from (eqb (case_of a) (case_of b)) (eqb (carried a) (carried b))
-    (eq_eqb (case_of a) (case_of b) (ap case_of e)) (eq_eqb (carried a) (carried b) (ap carried e))
+    (eq-eqb (case_of a) (case_of b) (ap case_of e)) (eq-eqb (carried a) (carried b) (ap carried e))
 
 pub alike_is_one_kind : AlikeIsOneKind
 alike_is_one_kind t u = (same_kind_equal t.kind u.kind, equal_same_kind t.kind u.kind)

@@ -1,28 +1,28 @@
 use Rattle.std.proofs.Common.{◌∙◌, arith}
-use lib.ListN.{length_map}
+use lib.ListN.{length-map}
 use Rattle.meaning.specs.HostCode.{read, read_all}
 use Rattle.hosts.specs.LawsOfNumbers.{coalesce_is_the_first}
 use Rattle.hosts.proofs.Replies.{few_given, many_given}
 use Rattle.hosts.proofs.numbers.coalesce.Goals as goal
 
-pub returns_then_args : goal.returns_then_args
-returns_then_args c =
+pub returns-then-args : goal.returns-then-args
+returns-then-args c =
     let args = c.args.args.now in
     let arena = c.args.arena.now in
     let row = c.args.row.now in
     record {
       value =
           c.first_given.ensures arena row
-          ∙ few_given (read_all arena row args) (omega (arith, length_map args (read arena row)));
+          ∙ few_given (read_all arena row args) (omega (arith, length-map args (read arena row)));
       law = coalesce_is_the_first;
     }
 
-pub returns_else_args : goal.returns_else_args
-returns_else_args c =
+pub returns-else-args : goal.returns-else-args
+returns-else-args c =
     let args = c.args.args.now in
     let arena = c.args.arena.now in
     let row = c.args.row.now in
     record {
-      value = many_given (read_all arena row args) (omega (arith, length_map args (read arena row)));
+      value = many_given (read_all arena row args) (omega (arith, length-map args (read arena row)));
       law = coalesce_is_the_first;
     }

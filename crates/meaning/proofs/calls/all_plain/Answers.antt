@@ -1,16 +1,16 @@
 use Rattle.meaning.proofs.Binding.{plain_step, plain_end}
 use Rattle.meaning.proofs.calls.all_plain.Goals as goal
 
-pub returns_then_not_is_plain : goal.returns_then_not_is_plain
-returns_then_not_is_plain c =
-    plain_step c.args.types.now c.loop_dtype.dtype_index _ _
-    c.loop_dtype_test.true c.if_not_is_plain.ensures c.loop_dtype.invariant
+pub returns-then-not-is-plain : goal.returns-then-not-is-plain
+returns-then-not-is-plain c =
+    plain_step c.args.types.now c.loop-dtype.dtype-index _ _
+    c.loop-dtype-test.true c.if-not-is-plain.ensures c.loop-dtype.invariant
 
-pub loop_dtype_preserved : goal.loop_dtype_preserved
-loop_dtype_preserved c =
-    plain_step c.args.types.now c.loop_dtype.dtype_index _ _
-    c.loop_dtype_test.true c.if_not_is_plain.ensures c.loop_dtype.invariant
+pub loop-dtype-preserved : goal.loop-dtype-preserved
+loop-dtype-preserved c =
+    plain_step c.args.types.now c.loop-dtype.dtype-index _ _
+    c.loop-dtype-test.true c.if-not-is-plain.ensures c.loop-dtype.invariant
 
 pub returns : goal.returns
 returns c =
-    plain_end c.args.types.now c.loop_dtype.dtype_index c.loop_dtype_test.false c.loop_dtype.invariant
+    plain_end c.args.types.now c.loop-dtype.dtype-index c.loop-dtype-test.false c.loop-dtype.invariant

@@ -3,5 +3,5 @@ use Rattle.meaning.specs.Hosts.{all_plain}
 use Rattle.meaning.proofs.calls.all_plain.Given as goal
 
 -- what is left to look at answers for the whole
-abbrev pub invariant_loop_dtype : goal.invariant_loop_dtype
-invariant_loop_dtype l = all_plain (drop l.dtype_index l.types) ≡ all_plain l.types
+abbrev pub invariant-loop-dtype : goal.invariant-loop-dtype
+invariant-loop-dtype l = all_plain (drop l.dtype-index l.types) ≡ all_plain l.types

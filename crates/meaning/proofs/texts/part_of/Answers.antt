@@ -4,4 +4,4 @@ use Rattle.meaning.proofs.texts.part_of.Goals as goal
 pub returns : goal.returns
 returns c =
     part_cut c.args.bytes.now c.args.span.start c.args.span.len
-    c.min_start.result c.min_end.result c.min_start.ensures c.min_end.ensures
+    c.min-start.result c.min-end.result c.min-start.ensures c.min-end.ensures

@@ -2,5 +2,5 @@ use Rattle.std.proofs.Common.{◌≡◌, drop}
 use Rattle.notation.specs.Words.{after_blanks}
 use Rattle.notation.proofs.words.after_blanks.Given as goal
 
-abbrev pub invariant_loop_i : goal.invariant_loop_i
-invariant_loop_i l = after_blanks (drop l.i l.text) ≡ after_blanks l.text
+abbrev pub invariant-loop-i : goal.invariant-loop-i
+invariant-loop-i l = after_blanks (drop l.i l.text) ≡ after_blanks l.text

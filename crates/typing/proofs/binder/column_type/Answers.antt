@@ -4,8 +4,8 @@ use Rattle.typing.specs.Typing.{type_found}
 use Rattle.typing.proofs.Sought.{column_sought, column_past}
 use Rattle.typing.proofs.binder.column_type.Goals as goal
 
-pub returns_then_schema_len : goal.returns_then_schema_len
-returns_then_schema_len c =
+pub returns-then-schema-len : goal.returns-then-schema-len
+returns-then-schema-len c =
     sym (column_past (all_fields c.args.schemas.now) c.args.schema c.args.name.now (omega arith))
 
 pub returns : goal.returns

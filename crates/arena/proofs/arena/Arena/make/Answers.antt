@@ -13,7 +13,7 @@ returns g c =
     let ss = c.args.self.now.binder.schemas in
     let made =
     makes_new m (new_of c.args.function) c.args.children c.args.count (opened ss c.args.self.now.memory)
-    c.in_ok_check_schema.ensures
+    c.in-ok-check-schema.ensures
     in
     record {
       answer = c.make.ensures.answer (all_fields ss) ∙ ap (λ (z : Result ℕ Refusal × Store). z.0) made;

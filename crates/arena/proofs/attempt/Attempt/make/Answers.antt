@@ -9,14 +9,14 @@ use Rattle.arena.specs.Opened.{opened}
 use Rattle.arena.proofs.Kept.{still_marked}
 use Rattle.arena.proofs.attempt.Attempt.make.Goals as goal
 
-pub invariant_of_self : goal.invariant_of_self
-invariant_of_self g c =
+pub invariant-of-self : goal.invariant-of-self
+invariant-of-self g c =
     let a = c.args.self.now in
-    let later = c.try_new.new.self in
+    let later = c.try-new.new.self in
     let m = g.H.Host.meaning a.arena.now.binder.host in
     let s = opened a.arena.now.binder.schemas a.arena.now.memory in
     let grows =
-    subst (λ (z : Store). Grows s z) (sym c.try_new.ensures.after)
+    subst (λ (z : Store). Grows s z) (sym c.try-new.ensures.after)
     (steps_only_add m s (makes (new_of c.args.function) c.args.children c.args.count ∷ []))
     in
     let marked =

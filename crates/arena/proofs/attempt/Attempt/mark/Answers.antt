@@ -4,17 +4,17 @@ use Rattle.vocabulary.specs.declared.nodes.Node.{Node}
 use Rattle.arena.specs.Standing.{all_stand}
 use Rattle.arena.proofs.attempt.Attempt.mark.Goals as goal
 
-pub invariant_of_result : goal.invariant_of_result
-invariant_of_result g c =
+pub invariant-of-result : goal.invariant-of-result
+invariant-of-result g c =
     let h = c.args.arena.now.memory in
-    let whole : take c.len_nodes.result (vec_items h.nodes) ≡ vec_items h.nodes =
-    take_all c.len_nodes.result (vec_items h.nodes) (omega (arith, c.len_nodes.ensures, h.nodes.ok.0)) in (
-      omega (arith, c.len_nodes.ensures),
+    let whole : take c.len-nodes.result (vec_items h.nodes) ≡ vec_items h.nodes =
+    take_all c.len-nodes.result (vec_items h.nodes) (omega (arith, c.len-nodes.ensures, h.nodes.ok.0)) in (
+      omega (arith, c.len-nodes.ensures),
       (
-        omega (arith, c.len_text.ensures),
+        omega (arith, c.len-text.ensures),
         (
-          ap (λ (xs : List Node). all_stand c.len_text.result (reverse xs)) whole
-              ∙ ap (λ (k : ℕ). all_stand k (reverse (vec_items h.nodes))) c.len_text.ensures ∙ h.sound,
+          ap (λ (xs : List Node). all_stand c.len-text.result (reverse xs)) whole
+              ∙ ap (λ (k : ℕ). all_stand k (reverse (vec_items h.nodes))) c.len-text.ensures ∙ h.sound,
           tt,
         ),
       ),

@@ -8,8 +8,8 @@ use Rattle.arena.specs.Opened.{opened}
 use Rattle.arena.proofs.Kept.{still_marked}
 use Rattle.arena.proofs.attempt.Attempt.rebuild.Goals as goal
 
-pub invariant_of_self : goal.invariant_of_self
-invariant_of_self g c =
+pub invariant-of-self : goal.invariant-of-self
+invariant-of-self g c =
     let a = c.args.self.now in
     let later = c.with_children.new.self in
     let m = g.H.Host.meaning a.arena.now.binder.host in

@@ -3,8 +3,8 @@ use Rattle.schemas.specs.Tables.{all_fields}
 use Rattle.arena.proofs.Kept.{cut_marked}
 use Rattle.arena.proofs.attempt.Attempt.take_back.Goals as goal
 
-pub invariant_of_self : goal.invariant_of_self
-invariant_of_self g c =
+pub invariant-of-self : goal.invariant-of-self
+invariant-of-self g c =
     let a = c.args.self in
     let marked =
     cut_marked a.arena.now.memory c.cut.new.self a.nodes a.text

@@ -6,7 +6,7 @@ returns c = record {
   after =
       λ ss.
       cut_is ss c.args.self.now c.args.nodes c.args.text _ _ c.truncate.ensures.items
-      c.truncate_2.ensures.items;
+      c.truncate-2.ensures.items;
   nodes = c.truncate.ensures.items;
-  text = c.truncate_2.ensures.items;
+  text = c.truncate-2.ensures.items;
 }

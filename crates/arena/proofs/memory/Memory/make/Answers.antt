@@ -14,18 +14,18 @@ use Rattle.arena.proofs.Drafts.{nodes_length}
 use Rattle.arena.proofs.Made.{made_granted, made_refused, made_fits}
 use Rattle.arena.proofs.memory.Memory.make.Goals as goal
 
-pub enter_requires : goal.enter_requires
-enter_requires g c =
+pub enter-requires : goal.enter-requires
+enter-requires g c =
     let t = g.T.Typist.typing c.args.typist.now in
     let h = c.args.self.now in
     let w = new_of c.args.asked in
-    let d = c.in_ok_draft.draft in
-    let same = ap length c.bytes_bytes.ensures in
-    let drawn = c.in_ok_draft.ensures
+    let d = c.in-ok-draft.draft in
+    let same = ap length c.bytes-bytes.ensures in
+    let drawn = c.in-ok-draft.ensures
     ∙ ap (λ (k : ℕ). drafted t h c.args.place w c.args.children c.args.count k) same in
     let fits = made_fits [] h t c.args.place w c.args.children c.args.count (omega arith) d drawn in
     let is = c.record.ensures
-    ∙ ap (λ (f : Function). noted f c.args.children c.args.count d) c.placed_function.ensures in
+    ∙ ap (λ (f : Function). noted f c.args.children c.args.count d) c.placed-function.ensures in
     record {
       room = fits.room;
       text_room = omega (arith, fits.text_room, same);
@@ -44,10 +44,10 @@ returns g c =
     let cs = c.args.children in
     let n = c.args.count in
     let eight : length cs ≡ 8 = grind arith in
-    let d = c.in_ok_draft.draft in
-    let drawn = c.in_ok_draft.ensures
-    ∙ ap (λ (k : ℕ). drafted t h c.args.place w cs n k) (ap length c.bytes_bytes.ensures) in
-    let is = c.record.ensures ∙ ap (λ (f : Function). noted f cs n d) c.placed_function.ensures in
+    let d = c.in-ok-draft.draft in
+    let drawn = c.in-ok-draft.ensures
+    ∙ ap (λ (k : ℕ). drafted t h c.args.place w cs n k) (ap length c.bytes-bytes.ensures) in
+    let is = c.record.ensures ∙ ap (λ (f : Function). noted f cs n d) c.placed-function.ensures in
     record {
       answer =
           λ ss. ap Ok (c.enter.ensures.number ∙ nodes_length ss h)
@@ -55,23 +55,23 @@ returns g c =
           (made_granted ss h t c.args.place w cs n eight d drawn);
       after =
           λ ss. c.enter.ensures.after ss
-          ∙ ap (λ (bs : List ℕ). grown c.record.result bs (store ss h)) c.bytes_bytes.ensures
+          ∙ ap (λ (bs : List ℕ). grown c.record.result bs (store ss h)) c.bytes-bytes.ensures
           ∙ ap (λ (x : Node). grown x (new_bytes w) (store ss h)) is
           ∙ ap (λ (r : Result Node Refusal). (entered (new_bytes w) (store ss h) r).1)
           (made_granted ss h t c.args.place w cs n eight d drawn);
     }
 
-pub returns_in_err_draft : goal.returns_in_err_draft
-returns_in_err_draft g c =
+pub returns-in-err-draft : goal.returns-in-err-draft
+returns-in-err-draft g c =
     let t = g.T.Typist.typing c.args.typist.now in
     let h = c.args.self.now in
     let w = new_of c.args.asked in
     let cs = c.args.children in
     let n = c.args.count in
     let eight : length cs ≡ 8 = omega arith in
-    let (e, is, from) = err_from_is_err_and c.from_residual.result c.from_residual.ensures.1 in
-    let drawn = c.in_err_draft.ensures
-    ∙ ap (λ (k : ℕ). drafted t h c.args.place w cs n k) (ap length c.bytes_bytes.ensures) in
+    let (e, is, from) = err_from_is_err_and c.from-residual.result c.from-residual.ensures.1 in
+    let drawn = c.in-err-draft.ensures
+    ∙ ap (λ (k : ℕ). drafted t h c.args.place w cs n k) (ap length c.bytes-bytes.ensures) in
     record {
       answer =
           λ ss. is ∙ ap Err from

@@ -5,15 +5,15 @@ use Rattle.vocabulary.specs.declared.refusals.MemoryRefusal.TheVariants.{NoSuchN
 use Rattle.arena.proofs.Numbered.{node_made, node_not_made}
 use Rattle.arena.proofs.memory.Memory.node.Goals as goal
 
-pub returns_then_at_len : goal.returns_then_at_len
-returns_then_at_len c =
+pub returns-then-at-len : goal.returns-then-at-len
+returns-then-at-len c =
     let xs = vec_items c.args.self.now.nodes in
     let n = c.args.number in
     ap Ok c.index.ensures
     ∙ ap (λ (o : Option Node). ok_or o (NoSuchNode n)) (sym (node_made xs n c.index.result.now (omega arith)))
 
-pub returns_else_at_len : goal.returns_else_at_len
-returns_else_at_len c =
+pub returns-else-at-len : goal.returns-else-at-len
+returns-else-at-len c =
     let xs = vec_items c.args.self.now.nodes in
     let n = c.args.number in
     ap (λ (o : Option Node). ok_or o (NoSuchNode n)) (sym (node_not_made xs n (omega arith)))

@@ -14,19 +14,19 @@ use Rattle.arena.proofs.Looking.{there}
 use Rattle.arena.proofs.Remade.{made_anew, remade_granted, remade_refused, remade_fits}
 use Rattle.arena.proofs.memory.Memory.rebuild.Goals as goal
 
-pub enter_requires : goal.enter_requires
-enter_requires g c =
+pub enter-requires : goal.enter-requires
+enter-requires g c =
     let t = g.T.Typist.typing c.args.typist.now in
     let h = c.args.self.now in
     let k = c.args.node in
-    let x = c.in_ok_old.field_0.now in
+    let x = c.in-ok-old.field-0.now in
     let cs = c.args.children in
     let n = c.args.count in
     let eight : length cs ≡ 8 = grind arith in
-    let found = there (node_at (store [] h) k) x (NoSuchNode k) c.in_ok_old.ensures in
-    let drawn = c.in_ok_draft.ensures
-    ∙ ap (λ (w : New). drafted t h k w cs n 0) c.asked_again_asked.ensures in
-    let fits = remade_fits [] h t k x cs n found eight c.in_ok_draft.draft drawn in
+    let found = there (node_at (store [] h) k) x (NoSuchNode k) c.in-ok-old.ensures in
+    let drawn = c.in-ok-draft.ensures
+    ∙ ap (λ (w : New). drafted t h k w cs n 0) c.asked-again-asked.ensures in
+    let fits = remade_fits [] h t k x cs n found eight c.in-ok-draft.draft drawn in
     record {
       room = fits.room;
       text_room = fits.text_room;
@@ -40,54 +40,54 @@ returns g c =
     let t = g.T.Typist.typing c.args.typist.now in
     let h = c.args.self.now in
     let k = c.args.node in
-    let x = c.in_ok_old.field_0.now in
+    let x = c.in-ok-old.field-0.now in
     let cs = c.args.children in
     let n = c.args.count in
     let eight : length cs ≡ 8 = grind arith in
-    let found = there (node_at (store [] h) k) x (NoSuchNode k) c.in_ok_old.ensures in
-    let drawn = c.in_ok_draft.ensures
-    ∙ ap (λ (w : New). drafted t h k w cs n 0) c.asked_again_asked.ensures in
+    let found = there (node_at (store [] h) k) x (NoSuchNode k) c.in-ok-old.ensures in
+    let drawn = c.in-ok-draft.ensures
+    ∙ ap (λ (w : New). drafted t h k w cs n 0) c.asked-again-asked.ensures in
     record {
       answer =
           λ ss. ap Ok (c.enter.ensures.number ∙ nodes_length ss h)
           ∙ ap (λ (r : Result Node Refusal). (entered [] (store ss h) r).0)
-          (remade_granted ss h t k x cs n found eight c.in_ok_draft.draft drawn)
+          (remade_granted ss h t k x cs n found eight c.in-ok-draft.draft drawn)
           ∙ sym (ap (λ (z : Result ℕ Refusal × Store). z.0)
-          (made_anew ss h t k x cs n found c.if_is_itself.ensures));
+          (made_anew ss h t k x cs n found c.if-is-itself.ensures));
       after =
           λ ss. c.enter.ensures.after ss
           ∙ ap (λ (y : Node). grown y [] (store ss h)) c.record.ensures
           ∙ ap (λ (r : Result Node Refusal). (entered [] (store ss h) r).1)
-          (remade_granted ss h t k x cs n found eight c.in_ok_draft.draft drawn)
+          (remade_granted ss h t k x cs n found eight c.in-ok-draft.draft drawn)
           ∙ sym (ap (λ (z : Result ℕ Refusal × Store). z.1)
-          (made_anew ss h t k x cs n found c.if_is_itself.ensures));
+          (made_anew ss h t k x cs n found c.if-is-itself.ensures));
     }
 
-pub returns_in_err_draft : goal.returns_in_err_draft
-returns_in_err_draft g c =
+pub returns-in-err-draft : goal.returns-in-err-draft
+returns-in-err-draft g c =
     let t = g.T.Typist.typing c.args.typist.now in
     let h = c.args.self.now in
     let k = c.args.node in
-    let x = c.in_ok_old.field_0.now in
+    let x = c.in-ok-old.field-0.now in
     let cs = c.args.children in
     let n = c.args.count in
     let eight : length cs ≡ 8 = grind arith in
-    let found = there (node_at (store [] h) k) x (NoSuchNode k) c.in_ok_old.ensures in
+    let found = there (node_at (store [] h) k) x (NoSuchNode k) c.in-ok-old.ensures in
     let (e, is, from) =
-    err_from_is_err_and c.from_residual_in_err_draft.result c.from_residual_in_err_draft.ensures.1
+    err_from_is_err_and c.from-residual-in-err-draft.result c.from-residual-in-err-draft.ensures.1
     in
-    let drawn = c.in_err_draft.ensures
-    ∙ ap (λ (w : New). drafted t h k w cs n 0) c.asked_again_asked.ensures in
+    let drawn = c.in-err-draft.ensures
+    ∙ ap (λ (w : New). drafted t h k w cs n 0) c.asked-again-asked.ensures in
     record {
       answer =
           λ ss. is ∙ ap Err from
           ∙ ap (λ (r : Result Node Refusal). (entered [] (store ss h) r).0)
           (remade_refused ss h t k x cs n found eight _ drawn)
           ∙ sym (ap (λ (z : Result ℕ Refusal × Store). z.0)
-          (made_anew ss h t k x cs n found c.if_is_itself.ensures));
+          (made_anew ss h t k x cs n found c.if-is-itself.ensures));
       after =
           λ ss. ap (λ (r : Result Node Refusal). (entered [] (store ss h) r).1)
           (remade_refused ss h t k x cs n found eight _ drawn)
           ∙ sym (ap (λ (z : Result ℕ Refusal × Store). z.1)
-          (made_anew ss h t k x cs n found c.if_is_itself.ensures));
+          (made_anew ss h t k x cs n found c.if-is-itself.ensures));
     }

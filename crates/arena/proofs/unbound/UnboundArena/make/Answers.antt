@@ -10,8 +10,8 @@ use Rattle.arena.specs.Opened.{store}
 use Rattle.arena.proofs.AsUnbound.{Loose, makes_loose, stays_loose}
 use Rattle.arena.proofs.unbound.UnboundArena.make.Goals as goal
 
-pub invariant_of_self : goal.invariant_of_self
-invariant_of_self c =
+pub invariant-of-self : goal.invariant-of-self
+invariant-of-self c =
     let s = store [] c.args.self.now.memory in
     let w = new_of c.args.function in (
       subst Loose (sym (c.make.ensures.after []))

@@ -6,8 +6,8 @@ use Rattle.arena.specs.Opened.{store}
 use Rattle.arena.proofs.AsUnbound.{Loose, rebuilds_loose, rebuild_loose}
 use Rattle.arena.proofs.unbound.UnboundArena.rebuild.Goals as goal
 
-pub invariant_of_self : goal.invariant_of_self
-invariant_of_self c =
+pub invariant-of-self : goal.invariant-of-self
+invariant-of-self c =
     let s = store [] c.args.self.now.memory in (
       subst Loose (sym (c.rebuild.ensures.after []))
           (rebuild_loose c.args.node c.args.children c.args.count s c.args.self.now.loose),

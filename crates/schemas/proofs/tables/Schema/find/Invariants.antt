@@ -6,7 +6,7 @@ use Rattle.schemas.proofs.Lookup.{from}
 use Rattle.schemas.proofs.tables.Schema.find.Given as goal
 
 -- what is left to look at answers for the whole
-abbrev pub invariant_loop_i : goal.invariant_loop_i
-invariant_loop_i l =
+abbrev pub invariant-loop-i : goal.invariant-loop-i
+invariant-loop-i l =
     found_from l.i l.name (map field_of (from l.i l.self.count l.self.columns))
     ≡ found l.name (fields_of l.self)

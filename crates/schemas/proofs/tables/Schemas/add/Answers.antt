@@ -4,21 +4,21 @@ use Rattle.schemas.specs.Fields.{Field}
 use Rattle.schemas.proofs.TableReads.{numbered_ok, answered, placed_refused, placed_granted, same_fields, more_fields}
 use Rattle.schemas.proofs.tables.Schemas.add.Goals as goal
 
-pub returns_then_not_add : goal.returns_then_not_add
-returns_then_not_add c =
+pub returns-then-not-add : goal.returns-then-not-add
+returns-then-not-add c =
     let table = c.args.self.now.table in
     let schema = c.args.schema in
     let field : Field = record { name = c.args.name.now; dtype = c.args.dtype } in
-    let at = c.in_ok_at.at in
-    let here = c.index_self_at.result in
-    let number = c.in_ok_at.ensures in
+    let at = c.in-ok-at.at in
+    let here = c.index-self-at.result in
+    let number = c.in-ok-at.ensures in
     let known = numbered_ok schema at number in
     record {
       answer =
-          placed_refused schema c.len_column.result field _ c.into.result
-          c.len_column.ensures c.if_not_add.ensures.answer c.into.ensures
+          placed_refused schema c.len-column.result field _ c.into.result
+          c.len-column.ensures c.if-not-add.ensures.answer c.into.ensures
           ∙ answered schema at (placed schema field) table here number (omega arith);
-      after = same_fields table at here c.add.new.self (omega arith) c.if_not_add.ensures.after;
+      after = same_fields table at here c.add.new.self (omega arith) c.if-not-add.ensures.after;
     }
 
 pub returns : goal.returns
@@ -26,19 +26,19 @@ returns c =
     let table = c.args.self.now.table in
     let schema = c.args.schema in
     let field : Field = record { name = c.args.name.now; dtype = c.args.dtype } in
-    let at = c.in_ok_at.at in
-    let here = c.index_self_at.result in
-    let number = c.in_ok_at.ensures in
+    let at = c.in-ok-at.at in
+    let here = c.index-self-at.result in
+    let number = c.in-ok-at.ensures in
     let known = numbered_ok schema at number in
     record {
       answer =
-          placed_granted schema c.len_column.result field _
-          c.len_column.ensures c.if_not_add.ensures.answer
+          placed_granted schema c.len-column.result field _
+          c.len-column.ensures c.if-not-add.ensures.answer
           ∙ answered schema at (placed schema field) table here number (omega arith);
       after =
           rw (sym known.0)
-          (more_fields table at here c.add.new.self field (omega arith) c.if_not_add.ensures.after);
+          (more_fields table at here c.add.new.self field (omega arith) c.if-not-add.ensures.after);
     }
 
-pub returns_in_err_at : goal.returns_in_err_at
-returns_in_err_at c = record { answer = search rules; after = search rules }
+pub returns-in-err-at : goal.returns-in-err-at
+returns-in-err-at c = record { answer = search rules; after = search rules }

@@ -1,5 +1,5 @@
-use Rattle.std.proofs.Common.{◌≡◌, length, arith, length_take}
-use Rattle.std.proofs.lemmas.List.{length_map}
+use Rattle.std.proofs.Common.{◌≡◌, length, arith, length-take}
+use Rattle.std.proofs.lemmas.List.{length-map}
 use Rattle.schemas.specs.Tables.{fields_of}
 use Rattle.schemas.proofs.tables.Schemas.all.Goals as goal
 
@@ -8,6 +8,6 @@ returns c =
     let table = c.args.self.now.table in
     let l : length table ≡ 8 = omega arith in
     record {
-      counted = simp length_take (omega (arith, length_map table fields_of));
-      eight = simp length_take (omega arith);
+      counted = simp length-take (omega (arith, length-map table fields_of));
+      eight = simp length-take (omega arith);
     }
