@@ -1,10 +1,8 @@
-pub mod AsModelled
-pub mod AsUnbound
 pub mod Drafts
 pub mod Families
-pub mod Kept
+pub mod Heads
 pub mod Looking
-pub mod Made
 pub mod Numbered
-pub mod Remade
+pub mod Redrafts
+pub mod Sought
 pub mod Stands

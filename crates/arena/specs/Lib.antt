@@ -1,13 +1,10 @@
-pub mod Bound
-pub mod Building
+pub mod Asked
+pub mod Binding
 pub mod Drafting
-pub mod Loose
 pub mod Opened
-pub mod OpenedUnbound
 pub mod Placing
 pub mod Reading
 pub mod Rebuilding
 pub mod Reserving
 pub mod Standing
 pub mod Surveying
-pub mod Trials

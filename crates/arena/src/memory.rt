@@ -1,5 +1,4 @@
-ghost use Rattle.std.specs.Prelude.{◌≡◌, ◌≤◌, true, reverse, vec_len, vec_capacity};
-ghost use Rattle.arena.specs.Standing.{all_stand};
+ghost use Rattle.std.specs.Prelude.{◌≤◌, vec_len, vec_capacity};
 
 use vocabulary::nodes::Node;
 
@@ -19,5 +18,4 @@ pub struct Memory {
     ghost addressed: { bytes ≤ 65536 },
     ghost roomy: { records ≤ vec_capacity nodes },
     ghost spacious: { bytes ≤ vec_capacity text },
-    ghost sound: { all_stand (vec_len text) (reverse nodes.items) ≡ true },
 }

@@ -1,4 +1,6 @@
 //! Frame filters: reads a channel's columns from standard input, and prints its schema.
+#![tactic(auto)]
+
 mod display;
 
 use crate::display::*;

@@ -12,8 +12,7 @@ use Rattle.model.specs.Wanted.{new_head}
 use Rattle.model.specs.Making.{head_counts}
 use Rattle.model.specs.Soundness.{Below, Sound}
 use Rattle.model.specs.LawsOfMaking.{Grows}
-use Rattle.vocabulary.specs.declared.unbound.UnboundNode.{UnboundNode}
-use Rattle.model.specs.Unbound.{unbound_kids, rows, seen}
+use Rattle.model.specs.Unbound.{UnboundNode, unbound_kids, rows, seen}
 use Rattle.model.specs.UnboundMaking.{any_host}
 use Rattle.model.specs.BindingTrees.{onward, asked, bind_over, bind_all, bind_among}
 use Rattle.model.proofs.Adding.{steps_only_add}

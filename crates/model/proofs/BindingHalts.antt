@@ -12,8 +12,7 @@ use Rattle.model.specs.Wanted.{new_bytes}
 use Rattle.model.specs.Making.{head_counts}
 use Rattle.model.specs.Soundness.{Sound}
 use Rattle.model.specs.LawsOfRefusing.{Refused}
-use Rattle.vocabulary.specs.declared.unbound.UnboundNode.{UnboundNode}
-use Rattle.model.specs.Unbound.{unbound_kids, rows, seen}
+use Rattle.model.specs.Unbound.{UnboundNode, unbound_kids, rows, seen}
 use Rattle.model.specs.UnboundMaking.{any_host}
 use Rattle.model.specs.BindingTrees.{onward, asked, bind_over, bind_all, bind_among}
 use Rattle.model.specs.LawsOfRefusedBinding.{itself, under}

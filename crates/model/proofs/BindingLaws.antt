@@ -12,8 +12,7 @@ use Rattle.model.specs.Making.{build, entered, schema_first, new_plan}
 use Rattle.model.specs.Soundness.{Sound}
 use Rattle.model.specs.LawsOfMaking.{Grows}
 use Rattle.model.specs.LawsOfRefusing.{SchemaThere}
-use Rattle.vocabulary.specs.declared.unbound.UnboundNode.{UnboundNode}
-use Rattle.model.specs.Unbound.{UnboundStore, unbound_among, tree_for}
+use Rattle.model.specs.Unbound.{UnboundNode, UnboundStore, unbound_among, tree_for}
 use Rattle.model.specs.UnboundSoundness.{SoundUnbound}
 use Rattle.model.specs.BindingTrees.{first, all_or_nothing, bind_among, bind}
 use Rattle.model.specs.LawsOfBinding.{BoundTree, BoundAsAsked, KeptStore, BindingKeepsTheStore}

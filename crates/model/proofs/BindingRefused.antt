@@ -12,8 +12,7 @@ use Rattle.model.specs.Wanted.{new_bytes, new_head}
 use Rattle.model.specs.Making.{named, head_counts, build, entered}
 use Rattle.model.specs.Soundness.{Below}
 use Rattle.model.specs.LawsOfRefusing.{Refused}
-use Rattle.vocabulary.specs.declared.unbound.UnboundNode.{UnboundNode}
-use Rattle.model.specs.Unbound.{unbound_among, unbound_kids, rows, seen}
+use Rattle.model.specs.Unbound.{UnboundNode, unbound_among, unbound_kids, rows, seen}
 use Rattle.model.specs.BindingTrees.{asked, plan_at, bind_over}
 use Rattle.model.specs.LawsOfRefusedBinding.{OneOf, StandsIn}
 use Rattle.model.proofs.Children.{err_ok}

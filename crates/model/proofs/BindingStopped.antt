@@ -6,7 +6,7 @@ use Rattle.meaning.specs.Trees.{Expr, size, sizes}
 use Rattle.model.specs.Stores.{Store}
 use Rattle.model.specs.Shapes.{trees_by, tree}
 use Rattle.model.specs.Soundness.{Sound}
-use Rattle.vocabulary.specs.declared.unbound.UnboundNode.{UnboundNode}
+use Rattle.model.specs.Unbound.{UnboundNode}
 use Rattle.model.specs.BindingTrees.{onward, bind_all}
 use Rattle.model.specs.LawsOfRefusedBinding.{OneOf, StandsIn, itself, under}
 use Rattle.model.proofs.Children.{err_ok}

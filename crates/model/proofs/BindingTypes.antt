@@ -17,8 +17,7 @@ use Rattle.model.specs.Stores.{Store}
 use Rattle.model.specs.Shapes.{Head, join, over, shape, shaped, trees_by, shape_tree}
 use Rattle.model.specs.Making.{head_counts}
 use Rattle.model.specs.Soundness.{Below}
-use Rattle.vocabulary.specs.declared.unbound.UnboundNode.{UnboundNode}
-use Rattle.model.specs.Unbound.{UnboundStore, unbound_at, unbound_kids, seen, tree_for}
+use Rattle.model.specs.Unbound.{UnboundNode, UnboundStore, unbound_at, unbound_kids, seen, tree_for}
 use Rattle.model.specs.UnboundMaking.{any_host}
 use Rattle.model.specs.UnboundSoundness.{SoundUnbound, SoundUnboundNode}
 use Rattle.model.specs.LawsOfRefusedBinding.{OneOf, StandsIn, itself, under, head_for, Cause, unbindable}

@@ -11,9 +11,7 @@ use Rattle.model.specs.Wanted.{new_bytes}
 use Rattle.model.specs.Making.{named, head_counts, new_plan}
 use Rattle.model.specs.Rebuilding.{old_plan}
 use Rattle.model.specs.LawsOfMaking.{with_operands}
-use Rattle.vocabulary.specs.declared.unbound.UnboundNode.{UnboundNode}
-use Rattle.vocabulary.specs.Unbound.{untyped}
-use Rattle.model.specs.Unbound.{UnboundStore, unbound_at, unbound_kids, unbound_grown, rows, seen}
+use Rattle.model.specs.Unbound.{UnboundNode, UnboundStore, unbound_at, unbound_kids, unbound_grown, rows, seen, untyped}
 use Rattle.model.specs.Unbound.{against, tree_for}
 use Rattle.model.specs.UnboundMaking.{any_host, build_unbound, entered_unbound, itself_or_new, rebuilt_unbound}
 use Rattle.model.specs.UnboundSoundness.{SoundUnbound}

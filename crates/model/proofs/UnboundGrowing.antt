@@ -9,10 +9,8 @@ use Rattle.meaning.proofs.CaseSplits.{some_same}
 use Rattle.model.specs.Shapes.{Head, head_of, shape, shaped, shape_tree, tree_among}
 use Rattle.model.specs.Making.{Plan, named, head_counts, deepest, total_size}
 use Rattle.model.specs.Soundness.{Below, EndsWithin}
-use Rattle.vocabulary.specs.declared.unbound.UnboundNode.{UnboundNode}
-use Rattle.model.specs.Unbound.{UnboundStore, unbound_among, unbound_at, unbound_kids, unbound_grown}
-use Rattle.vocabulary.specs.Unbound.{untyped}
-use Rattle.model.specs.Unbound.{rows, seen, against, tree_for}
+use Rattle.model.specs.Unbound.{UnboundNode, UnboundStore, unbound_among, unbound_at, unbound_kids, unbound_grown}
+use Rattle.model.specs.Unbound.{rows, seen, untyped, against, tree_for}
 use Rattle.model.specs.UnboundMaking.{any_host}
 use Rattle.model.specs.UnboundSoundness.{SoundUnbound, SoundUnboundNode}
 use Rattle.model.proofs.Numbers.{tree_older, tree_newest, shapes_same}

@@ -5,8 +5,7 @@ use Rattle.std.proofs.lemmas.Bool.{eqb-true, eq-eqb, ne_eqb}
 use Rattle.std.specs.Option.{option_map}
 use Rattle.meaning.proofs.CaseSplits.{none_some}
 use Rattle.model.specs.Stores.{node_among}
-use Rattle.vocabulary.specs.declared.unbound.UnboundNode.{UnboundNode}
-use Rattle.model.specs.Unbound.{unbound_among, seen}
+use Rattle.model.specs.Unbound.{UnboundNode, unbound_among, seen}
 
 pub unbound_older : (x : UnboundNode) (xs : List UnboundNode) (n : ℕ) → n < length xs
     → unbound_among (x ∷ xs) n ≡ unbound_among xs n

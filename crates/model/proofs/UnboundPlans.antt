@@ -18,8 +18,7 @@ use Rattle.model.specs.Wanted.{placed_behind, new_function, new_bytes, new_head}
 use Rattle.model.specs.Making.{Plan, named, looked_up, head_counts, deepest, total_size, new_record, new_plan}
 use Rattle.model.specs.Rebuilding.{old_plan}
 use Rattle.model.specs.Soundness.{EndsWithin}
-use Rattle.vocabulary.specs.declared.unbound.UnboundNode.{UnboundNode}
-use Rattle.model.specs.Unbound.{UnboundStore, unbound_at, rows, seen, against, tree_for}
+use Rattle.model.specs.Unbound.{UnboundNode, UnboundStore, unbound_at, rows, seen, against, tree_for}
 use Rattle.model.specs.UnboundMaking.{any_host, over_unbound, build_unbound}
 use Rattle.model.specs.UnboundSoundness.{SoundUnbound}
 use Rattle.model.specs.LawsOfUnbound.{held, for_schema}

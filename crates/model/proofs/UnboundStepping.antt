@@ -9,9 +9,7 @@ use Rattle.model.specs.Wanted.{new_bytes}
 use Rattle.model.specs.Making.{Plan, new_plan}
 use Rattle.model.specs.Rebuilding.{old_plan}
 use Rattle.model.specs.Steps.{Step, makes, rebuilds, numbers}
-use Rattle.vocabulary.specs.declared.unbound.UnboundNode.{UnboundNode}
-use Rattle.vocabulary.specs.Unbound.{untyped}
-use Rattle.model.specs.Unbound.{UnboundStore, unbound_among, unbound_at, unbound_grown, seen}
+use Rattle.model.specs.Unbound.{UnboundNode, UnboundStore, unbound_among, unbound_at, unbound_grown, seen, untyped}
 use Rattle.model.specs.Unbound.{against, tree_for}
 use Rattle.model.specs.UnboundMaking.{build_unbound, entered_unbound, itself_or_new, rebuilt_unbound}
 use Rattle.model.specs.UnboundMaking.{perform_unbound}

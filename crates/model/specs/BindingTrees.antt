@@ -11,8 +11,7 @@ use Rattle.meaning.specs.Hosts.{Meaning}
 use Rattle.model.specs.Stores.{Store}
 use Rattle.model.specs.Wanted.{New, new_function, new_bytes, new_head}
 use Rattle.model.specs.Making.{Plan, build, entered}
-use Rattle.vocabulary.specs.declared.unbound.UnboundNode.{UnboundNode}
-use Rattle.model.specs.Unbound.{UnboundStore, unbound_kids}
+use Rattle.model.specs.Unbound.{UnboundNode, UnboundStore, unbound_kids}
 
 -- goes on with what was made; a refusal is passed on
 abbrev pub onward : {A B : Type 0} → Result A Refusal × Store

@@ -14,8 +14,7 @@ use Rattle.model.specs.Wanted.{new_bytes}
 use Rattle.model.specs.Making.{head_known, head_counts}
 use Rattle.model.specs.Soundness.{Sound}
 use Rattle.model.specs.LawsOfMaking.{Grows}
-use Rattle.vocabulary.specs.declared.unbound.UnboundNode.{UnboundNode}
-use Rattle.model.specs.Unbound.{UnboundStore, unbound_among, unbound_kids, rows, tree_for}
+use Rattle.model.specs.Unbound.{UnboundNode, UnboundStore, unbound_among, unbound_kids, rows, tree_for}
 use Rattle.model.specs.UnboundSoundness.{SoundUnbound}
 use Rattle.model.specs.BindingTrees.{asked, bind}
 

@@ -4,10 +4,17 @@ use Rattle.vocabulary.specs.declared.nodes.Function.{Function}
 use Rattle.vocabulary.specs.declared.nodes.Node.{Node}
 use Rattle.vocabulary.specs.declared.types.DType.{DType}
 use Rattle.vocabulary.specs.declared.types.Kind.TheVariants as kind
-use Rattle.vocabulary.specs.declared.unbound.UnboundNode.{UnboundNode}
 use Rattle.meaning.specs.Trees.{Expr}
 use Rattle.model.specs.Stores.{Store}
 use Rattle.model.specs.Shapes.{tree}
+
+-- the record of an unbound node: a node's without the type, and so a Root's without a schema
+pub record UnboundNode : Type 0 where
+  pub function : Function
+  pub children : List ℕ
+  pub child_count : ℕ
+  pub depth : ℕ
+  pub size : ℕ
 
 -- an arena of unbound nodes: the newest first, their text, and how many records and bytes it has room for
 pub record UnboundStore : Type 0 where
@@ -53,6 +60,16 @@ seen q x = record {
   children = x.children;
   child_count = x.child_count;
   dtype = rows q;
+  depth = x.depth;
+  size = x.size;
+}
+
+-- the same the other way round: a node's record without its type
+abbrev pub untyped : Node → UnboundNode
+untyped x = record {
+  function = x.function;
+  children = x.children;
+  child_count = x.child_count;
   depth = x.depth;
   size = x.size;
 }

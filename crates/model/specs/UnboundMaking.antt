@@ -13,9 +13,7 @@ use Rattle.model.specs.Wanted.{New, new_bytes}
 use Rattle.model.specs.Making.{Plan, named, looked_up, check, head_counts, sized, new_plan}
 use Rattle.model.specs.Rebuilding.{old_plan}
 use Rattle.model.specs.Steps.{Step, makes, rebuilds}
-use Rattle.vocabulary.specs.declared.unbound.UnboundNode.{UnboundNode}
-use Rattle.vocabulary.specs.Unbound.{untyped}
-use Rattle.model.specs.Unbound.{UnboundStore, unbound_at, unbound_grown, rows, seen, against}
+use Rattle.model.specs.Unbound.{UnboundNode, UnboundStore, unbound_at, unbound_grown, rows, seen, untyped, against}
 
 -- the host of unbound trees, which has every code and takes any count
 abbrev pub any_host : Meaning

@@ -5,8 +5,7 @@ use Rattle.meaning.specs.Trees.{depth, size}
 use Rattle.model.specs.Shapes.{head_of}
 use Rattle.model.specs.Making.{head_counts}
 use Rattle.model.specs.Soundness.{Below, EndsWithin}
-use Rattle.vocabulary.specs.declared.unbound.UnboundNode.{UnboundNode}
-use Rattle.model.specs.Unbound.{UnboundStore, unbound_at, unbound_kids, rows, tree_for}
+use Rattle.model.specs.Unbound.{UnboundNode, UnboundStore, unbound_at, unbound_kids, rows, tree_for}
 use Rattle.model.specs.UnboundMaking.{any_host}
 
 -- the record x of the number n is sound, read against the schema q

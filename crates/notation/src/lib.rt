@@ -1,4 +1,6 @@
 //! The text that the program reads: lines, words, numbers, the names of types.
+#![tactic(auto)]
+
 pub mod line;
 pub mod lines;
 mod naturals;

@@ -1,4 +1,6 @@
 //! Schemas: the columns of a frame's record, declared before an arena is opened.
+#![tactic(auto)]
+
 pub mod column;
 pub mod declaring;
 pub mod found;

@@ -1,4 +1,6 @@
 //! Examples of what the library answers, run as tests.
+#![tactic(auto)]
+
 #[cfg(test)]
 mod declaring;
 #[cfg(test)]

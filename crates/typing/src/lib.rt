@@ -1,4 +1,6 @@
 //! Nodes that are asked for, and which type they have: against schemas and a host, or none.
+#![tactic(auto)]
+
 pub mod asking;
 pub mod binder;
 pub mod counting;

@@ -1,4 +1,4 @@
-use Rattle.std.proofs.Common.{◌≡◌, ℕ, ◌+◌, ◌<◌, min, max, [], length, get_or, take, drop, set, Err, sym, ap, ◌∙◌, arith, length-take, rules}
+use Rattle.std.proofs.Common.{◌≡◌, ℕ, ◌+◌, ◌<◌, min, max, length, get_or, take, drop, set, Err, sym, ap, ◌∙◌, arith, length-take, rules}
 use Rattle.std.proofs.lemmas.List.{get_or-take}
 use Rattle.std.proofs.lemmas.Result.{err_from_is_err_and}
 use Rattle.model.specs.Making.{looked_up}
@@ -6,15 +6,15 @@ use Rattle.arena.specs.declared.bounds.Kin.{Kin}
 use Rattle.arena.specs.Opened.{store}
 use Rattle.arena.specs.Surveying.{surveyed, no_kin, with_child}
 use Rattle.arena.proofs.Looking.{looked_there, looked_missing, looked_end}
-use Rattle.arena.proofs.memory.Memory.survey.Goals as goal
+use Rattle.arena.proofs.arena.Arena.survey.Goals as goal
 
 pub loop-i-preserved : goal.loop-i-preserved
-loop-i-preserved c =
-    let s = store [] c.args.self.now in
+loop-i-preserved g c =
+    let s = store c.args.self.now.schemas c.args.self.now.memory in
     let cs = c.args.children in
     let ks = take c.min-used.result cs in
     let i = c.loop-i.i in
-    let x = c.in-ok-node.node.now in
+    let x = c.in-ok-node.node in
     let inside : i < length ks = simp length-take (omega arith) in
     let step =
     looked_there s ks i (get_or cs i 0) c.loop-i.kin x inside
@@ -30,8 +30,8 @@ loop-i-preserved c =
     )
 
 pub returns-in-err-node : goal.returns-in-err-node
-returns-in-err-node c =
-    let s = store [] c.args.self.now in
+returns-in-err-node g c =
+    let s = store c.args.self.now.schemas c.args.self.now.memory in
     let cs = c.args.children in
     let ks = take c.min-used.result cs in
     let i = c.loop-i.i in
@@ -45,8 +45,8 @@ returns-in-err-node c =
     ∙ ap (λ (n : ℕ). surveyed 0 no_kin (looked_up s (take n cs))) c.min-used.ensures
 
 pub returns : goal.returns
-returns c =
-    let s = store [] c.args.self.now in
+returns g c =
+    let s = store c.args.self.now.schemas c.args.self.now.memory in
     let ks = take c.min-used.result c.args.children in
     sym (looked_end s ks c.loop-i.i c.loop-i.kin (simp length-take (omega arith)))
     ∙ c.loop-i.invariant.1
