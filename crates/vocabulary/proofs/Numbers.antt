@@ -1,5 +1,5 @@
 -- Each refusal's number, held against the layers.
-use Rattle.std.proofs.Common.{◌≡◌, ◌-◌, ◌≤◌, List, [], ◌∷◌, map, Some, refl, lit≤}
+use Rattle.std.proofs.Common.{◌≡◌, ◌-◌, ◌≤◌, List, [], ◌∷◌, Some, refl, lit≤}
 use Rattle.std.specs.List.{slice_get}
 use Rattle.vocabulary.specs.declared.refusals.MemoryRefusal.TheVariants.{OutsideLimits, NoHeap, NoSuchNode}
 use Rattle.vocabulary.specs.declared.refusals.MemoryRefusal.TheVariants.{NoSuchSchema, RecordsFull, TextFull}

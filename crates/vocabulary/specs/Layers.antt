@@ -1,5 +1,5 @@
 -- The layers in the order of the refusals' numbers.
-use Rattle.std.specs.Prelude.{◌≡◌, ℕ, ◌-◌, ◌≤◌, List, [], ◌∷◌, map, Some}
+use Rattle.std.specs.Prelude.{◌≡◌, ◌-◌, ◌≤◌, List, [], ◌∷◌, map, Some}
 use Rattle.std.specs.List.{slice_get}
 use Rattle.vocabulary.specs.declared.refusals.Layer.{Layer}
 use Rattle.vocabulary.specs.declared.refusals.Layer.TheVariants.{Memory, Binding, Walk, Rules, Evaluation}

@@ -4,7 +4,6 @@ use Rattle.std.specs.declared.cmp.Ordering.TheVariants.{Less, Equal, Greater}
 use Rattle.std.specs.declared.cmp.Ordering.{Ordering}
 use Rattle.std.specs.Ordering.{ordering_reverse}
 use Rattle.vocabulary.specs.declared.operators.Operator.{Operator}
-use Rattle.vocabulary.specs.declared.operators.Operator.TheVariants.{Add, Mul, And, Or}
 use Rattle.vocabulary.specs.declared.operators.CompareOperator.{CompareOperator}
 use Rattle.vocabulary.specs.declared.operators.CompareOperator.TheVariants.{Eq, NotEq, Gt, Gte, Lt, Lte}
 use Rattle.vocabulary.specs.declared.operators.Family.{Family}

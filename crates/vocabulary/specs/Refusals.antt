@@ -1,17 +1,12 @@
 -- Each refusal's number, layer and place.
-use Rattle.std.specs.Prelude.{ℕ, List}
-use Rattle.vocabulary.specs.declared.refusals.MemoryRefusal.{MemoryRefusal}
+use Rattle.std.specs.Prelude.{ℕ}
 use Rattle.vocabulary.specs.declared.refusals.MemoryRefusal.TheVariants.{OutsideLimits, NoHeap, NoSuchNode}
 use Rattle.vocabulary.specs.declared.refusals.MemoryRefusal.TheVariants.{NoSuchSchema, RecordsFull, TextFull}
 use Rattle.vocabulary.specs.declared.refusals.MemoryRefusal.TheVariants.{WorkShort}
-use Rattle.vocabulary.specs.declared.refusals.BindingRefusal.{BindingRefusal}
 use Rattle.vocabulary.specs.declared.refusals.BindingRefusal.TheVariants.{BadColumn, NoSuchCode, WrongChildCount}
 use Rattle.vocabulary.specs.declared.refusals.BindingRefusal.TheVariants.{DoesNotBind, TooDeep, TooLarge}
-use Rattle.vocabulary.specs.declared.refusals.WalkRefusal.{WalkRefusal}
 use Rattle.vocabulary.specs.declared.refusals.WalkRefusal.TheVariants.{TooLong, VisitorFault}
-use Rattle.vocabulary.specs.declared.refusals.RulesRefusal.{RulesRefusal}
 use Rattle.vocabulary.specs.declared.refusals.RulesRefusal.TheVariants.{TooManyRounds}
-use Rattle.vocabulary.specs.declared.refusals.EvaluationRefusal.{EvaluationRefusal}
 use Rattle.vocabulary.specs.declared.refusals.EvaluationRefusal.TheVariants.{OtherSchema, UnfitValue, Arithmetic}
 use Rattle.vocabulary.specs.declared.refusals.EvaluationRefusal.TheVariants.{UnlikeTypes, HostFault}
 use Rattle.vocabulary.specs.declared.refusals.Refusal.{Refusal}

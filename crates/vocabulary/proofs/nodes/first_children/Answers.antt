@@ -4,5 +4,5 @@ use Rattle.vocabulary.proofs.nodes.first_children.Goals as goal
 pub returns : goal.returns
 returns c =
     let whole = sub-zero c.args.count in
-    let copied = c.copy-from-slice.ensures.after in
+    let copied = c.copy_from_slice.ensures.after in
     cc
