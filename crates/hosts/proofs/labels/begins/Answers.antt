@@ -6,6 +6,6 @@ pub returns : goal.returns
 returns c =
     let bytes = c.args.bytes.now in
     let front = c.args.front.now in
-    let r = c.starts-with.result in
-    let same = begun bytes front r (starts_is bytes front r c.starts-with.ensures.value) in
+    let r = c.starts_with.result in
+    let same = begun bytes front r (starts_is bytes front r c.starts_with.ensures.value) in
     record { value = same; law = begins_is_a_front }

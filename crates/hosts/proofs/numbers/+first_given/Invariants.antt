@@ -2,5 +2,5 @@ use Rattle.std.proofs.Common.{length}
 use Rattle.hosts.proofs.numbers.+first_given.Given as goal
 
 -- fewer arguments are left
-abbrev pub decreases-first-given : goal.decreases-first-given
-decreases-first-given l = length l.args.now
+abbrev pub decreases-first_given : goal.decreases-first_given
+decreases-first_given l = length l.args.now

@@ -5,19 +5,19 @@ use Rattle.notation.proofs.naturals.read_natural.Goals as goal
 pub loop-digit-preserved : goal.loop-digit-preserved
 loop-digit-preserved c =
     let step =
-    digit_taken c.loop-digit.number c.in-ok-number.number c.args.digits.now
-    c.loop-digit.digit-index c.loop-digit-test.true (sym c.in-ok-number.ensures)
+    digit_taken c.loop-digit.number c.in_ok-number.number c.args.digits.now
+    c.loop-digit.digit-index c.loop-digit-test.true (sym c.in_ok-number.ensures)
     in
     (omega arith, sym step ∙ c.loop-digit.invariant.1)
 
-pub returns-in-err-number : goal.returns-in-err-number
-returns-in-err-number c =
+pub returns-in_err-number : goal.returns-in_err-number
+returns-in_err-number c =
     let xs = c.args.digits.now in
-    c.from-residual.ensures
+    c.from_residual.ensures
     ∙ sym (digit_refused c.loop-digit.number xs c.loop-digit.digit-index c.loop-digit-test.true
-    (sym c.in-err-number.ensures))
+    (sym c.in_err-number.ensures))
     ∙ c.loop-digit.invariant.1
-    ∙ some_digits xs c.if-is-empty.ensures
+    ∙ some_digits xs c.if-is_empty.ensures
 
 pub returns : goal.returns
 returns c =
@@ -25,4 +25,4 @@ returns c =
     sym (digits_end c.loop-digit.number xs c.loop-digit.digit-index c.loop-digit-test.false
     c.loop-digit.invariant.0)
     ∙ c.loop-digit.invariant.1
-    ∙ some_digits xs c.if-is-empty.ensures
+    ∙ some_digits xs c.if-is_empty.ensures

@@ -6,5 +6,5 @@ pub returns : goal.returns
 returns c =
     let text = c.args.text.now in
     let beginning = c.args.beginning.now in
-    stripped c.strip-prefix.result (take (length beginning) text) beginning (drop (length beginning) text) _
-    c.strip-prefix.ensures.cases
+    stripped c.strip_prefix.result (take (length beginning) text) beginning (drop (length beginning) text) _
+    c.strip_prefix.ensures.cases

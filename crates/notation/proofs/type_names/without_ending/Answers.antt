@@ -7,4 +7,4 @@ returns c =
     let text = c.args.text.now in
     let ending = c.args.ending.now in
     let kept = length text - length ending in
-    stripped c.strip-suffix.result (drop kept text) ending (take kept text) _ c.strip-suffix.ensures.cases
+    stripped c.strip_suffix.result (drop kept text) ending (take kept text) _ c.strip_suffix.ensures.cases

@@ -3,8 +3,8 @@ use Rattle.std.proofs.lemmas.List.{take_rest}
 use Rattle.notation.proofs.Steps.{blanks_step, blanks_end}
 use Rattle.notation.proofs.words.after_blanks.Goals as goal
 
-pub returns-then-not-is-blank : goal.returns-then-not-is-blank
-returns-then-not-is-blank c =
+pub returns-then-not-is_blank : goal.returns-then-not-is_blank
+returns-then-not-is_blank c =
     let rest = take_rest c.args.text.now c.loop-i.i in
     search (rules, blanks_step)
 

@@ -2,8 +2,8 @@ use Rattle.std.proofs.Common.{rules}
 use Rattle.notation.proofs.Steps.{word_step, word_end}
 use Rattle.notation.proofs.words.word_length.Goals as goal
 
-pub returns-then-is-blank : goal.returns-then-is-blank
-returns-then-is-blank c = search (rules, word_step)
+pub returns-then-is_blank : goal.returns-then-is_blank
+returns-then-is_blank c = search (rules, word_step)
 
 pub loop-i-preserved : goal.loop-i-preserved
 loop-i-preserved c = search (rules, word_step)

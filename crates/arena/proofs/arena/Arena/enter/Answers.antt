@@ -3,8 +3,8 @@ use Rattle.arena.proofs.Drafts.{nodes_length}
 use Rattle.arena.proofs.Stands.{Added, added_stand, added_grown}
 use Rattle.arena.proofs.arena.Arena.enter.Goals as goal
 
-pub invariant-of-self : goal.invariant-of-self
-invariant-of-self g c =
+pub invariant_of-self : goal.invariant_of-self
+invariant_of-self g c =
     let e = c.push.ensures in
     let added : Added c.args.self.now.memory c.push.new.self c.args.node c.args.more.now =
     record { nodes = e.nodes; text = e.text; records = e.records; bytes = e.bytes } in (

@@ -16,10 +16,10 @@ pub enter-requires : goal.enter-requires
 enter-requires g c =
     let m = g.H.Host.meaning c.args.self.now.host in
     let h = c.args.self.now.memory in
-    let x = c.in-ok-node.node in
+    let x = c.in_ok-node.node in
     let fits =
     draft_fits m c.args.self.now.schemas h (new_of c.args.function) c.args.children c.args.count x
-    (omega arith) c.in-ok-node.ensures
+    (omega arith) c.in_ok-node.ensures
     in
     let same = ap length c.bytes.ensures in
     record {
@@ -38,28 +38,28 @@ returns g c =
     let w = new_of c.args.function in
     let s = store ss h in
     let made =
-    c.in-ok-node.ensures ∙ draft_is m ss h w c.args.children c.args.count (omega arith)
+    c.in_ok-node.ensures ∙ draft_is m ss h w c.args.children c.args.count (omega arith)
     in
     record {
       answer =
           ap Ok c.enter.ensures.number ∙ ap (λ (r : Result Node Refusal). (entered (new_bytes w) s r).0) made;
       after =
-          c.enter.ensures.after ∙ ap (λ (bs : List ℕ). grown c.in-ok-node.node bs s) c.bytes.ensures
+          c.enter.ensures.after ∙ ap (λ (bs : List ℕ). grown c.in_ok-node.node bs s) c.bytes.ensures
           ∙ ap (λ (r : Result Node Refusal). (entered (new_bytes w) s r).1) made;
       host = c.enter.ensures.host;
     }
 
-pub returns-in-err-node : goal.returns-in-err-node
-returns-in-err-node g c =
+pub returns-in_err-node : goal.returns-in_err-node
+returns-in_err-node g c =
     let m = g.H.Host.meaning c.args.self.now.host in
     let ss = c.args.self.now.schemas in
     let h = c.args.self.now.memory in
     let w = new_of c.args.function in
     let s = store ss h in
     let refused =
-    c.in-err-node.ensures ∙ draft_is m ss h w c.args.children c.args.count (omega arith)
+    c.in_err-node.ensures ∙ draft_is m ss h w c.args.children c.args.count (omega arith)
     in
-    let (e, is, from) = err_from_is_err_and c.from-residual.result c.from-residual.ensures.1 in
+    let (e, is, from) = err_from_is_err_and c.from_residual.result c.from_residual.ensures.1 in
     record {
       answer = is ∙ ap Err from ∙ ap (λ (r : Result Node Refusal). (entered (new_bytes w) s r).0) refused;
       after = ap (λ (r : Result Node Refusal). (entered (new_bytes w) s r).1) refused;

@@ -13,15 +13,15 @@ use Rattle.arena.proofs.Looking.{there, missing}
 use Rattle.arena.proofs.Redrafts.{kept_itself, made_anew, redraft_is, redraft_fits}
 use Rattle.arena.proofs.arena.Arena.rebuild.Goals as goal
 
-pub returns-in-err-old : goal.returns-in-err-old
-returns-in-err-old g c =
+pub returns-in_err-old : goal.returns-in_err-old
+returns-in_err-old g c =
     let m = g.H.Host.meaning c.args.self.now.host in
     let s = store c.args.self.now.schemas c.args.self.now.memory in
     let k = c.args.node in
     let (none, why) =
-    missing (node_at s k) c.in-err-old.field-0.0 (NoSuchNode k) c.in-err-old.ensures
+    missing (node_at s k) c.in_err-old.field-0.0 (NoSuchNode k) c.in_err-old.ensures
     in
-    let (e, is, from) = err_from_is_err_and c.from-residual.result c.from-residual.ensures.1 in
+    let (e, is, from) = err_from_is_err_and c.from_residual.result c.from_residual.ensures.1 in
     let refused = ap (λ (o : Option Node). rebuilt m k o c.args.children c.args.count s) none in
     record {
       answer =
@@ -31,15 +31,15 @@ returns-in-err-old g c =
       host = refl;
     }
 
-pub returns-then-is-itself : goal.returns-then-is-itself
-returns-then-is-itself g c =
+pub returns-then-is_itself : goal.returns-then-is_itself
+returns-then-is_itself g c =
     let m = g.H.Host.meaning c.args.self.now.host in
     let ss = c.args.self.now.schemas in
     let h = c.args.self.now.memory in
     let k = c.args.node in
-    let x = c.in-ok-old.old in
-    let found = there (node_at (store ss h) k) x (NoSuchNode k) c.in-ok-old.ensures in
-    let kept = kept_itself m ss h k x c.args.children c.args.count found c.if-is-itself.ensures in
+    let x = c.in_ok-old.old in
+    let found = there (node_at (store ss h) k) x (NoSuchNode k) c.in_ok-old.ensures in
+    let kept = kept_itself m ss h k x c.args.children c.args.count found c.if-is_itself.ensures in
     record {
       answer = sym (ap (λ (z : Result ℕ Refusal × Store). z.0) kept);
       after = sym (ap (λ (z : Result ℕ Refusal × Store). z.1) kept);
@@ -52,11 +52,11 @@ enter-requires g c =
     let ss = c.args.self.now.schemas in
     let h = c.args.self.now.memory in
     let k = c.args.node in
-    let x = c.in-ok-old.old in
-    let found = there (node_at (store ss h) k) x (NoSuchNode k) c.in-ok-old.ensures in
+    let x = c.in_ok-old.old in
+    let found = there (node_at (store ss h) k) x (NoSuchNode k) c.in_ok-old.ensures in
     let fits =
-    redraft_fits m ss h k x c.args.children c.args.count c.in-ok-anew.anew (omega arith)
-    c.args.self.now.sound found c.in-ok-anew.ensures
+    redraft_fits m ss h k x c.args.children c.args.count c.in_ok-anew.anew (omega arith)
+    c.args.self.now.sound found c.in_ok-anew.ensures
     in
     record { room = fits.room; text_room = fits.text_room; standing = fits.stands_there }
 
@@ -67,11 +67,11 @@ returns g c =
     let h = c.args.self.now.memory in
     let s = store ss h in
     let k = c.args.node in
-    let x = c.in-ok-old.old in
-    let found = there (node_at s k) x (NoSuchNode k) c.in-ok-old.ensures in
-    let anew = made_anew m ss h k x c.args.children c.args.count found c.if-is-itself.ensures in
+    let x = c.in_ok-old.old in
+    let found = there (node_at s k) x (NoSuchNode k) c.in_ok-old.ensures in
+    let anew = made_anew m ss h k x c.args.children c.args.count found c.if-is_itself.ensures in
     let made =
-    c.in-ok-anew.ensures ∙ redraft_is m ss h k x c.args.children c.args.count (omega arith)
+    c.in_ok-anew.ensures ∙ redraft_is m ss h k x c.args.children c.args.count (omega arith)
     in
     record {
       answer =
@@ -83,21 +83,21 @@ returns g c =
       host = c.enter.ensures.host;
     }
 
-pub returns-in-err-anew : goal.returns-in-err-anew
-returns-in-err-anew g c =
+pub returns-in_err-anew : goal.returns-in_err-anew
+returns-in_err-anew g c =
     let m = g.H.Host.meaning c.args.self.now.host in
     let ss = c.args.self.now.schemas in
     let h = c.args.self.now.memory in
     let s = store ss h in
     let k = c.args.node in
-    let x = c.in-ok-old.old in
-    let found = there (node_at s k) x (NoSuchNode k) c.in-ok-old.ensures in
-    let anew = made_anew m ss h k x c.args.children c.args.count found c.if-is-itself.ensures in
+    let x = c.in_ok-old.old in
+    let found = there (node_at s k) x (NoSuchNode k) c.in_ok-old.ensures in
+    let anew = made_anew m ss h k x c.args.children c.args.count found c.if-is_itself.ensures in
     let refused =
-    c.in-err-anew.ensures ∙ redraft_is m ss h k x c.args.children c.args.count (omega arith)
+    c.in_err-anew.ensures ∙ redraft_is m ss h k x c.args.children c.args.count (omega arith)
     in
     let (e, is, from) =
-    err_from_is_err_and c.from-residual-in-err-anew.result c.from-residual-in-err-anew.ensures.1
+    err_from_is_err_and c.from_residual-in_err-anew.result c.from_residual-in_err-anew.ensures.1
     in
     record {
       answer =

@@ -14,11 +14,11 @@ loop-i-preserved g c =
     let cs = c.args.children in
     let ks = take c.min-used.result cs in
     let i = c.loop-i.i in
-    let x = c.in-ok-node.node in
+    let x = c.in_ok-node.node in
     let inside : i < length ks = simp length-take (omega arith) in
     let step =
     looked_there s ks i (get_or cs i 0) c.loop-i.kin x inside
-    (sym (get_or-take c.min-used.result cs i 0 (omega arith))) c.in-ok-node.ensures
+    (sym (get_or-take c.min-used.result cs i 0 (omega arith))) c.in_ok-node.ensures
     in (
       omega arith,
       ap (λ (d : ℕ). surveyed (i + 1) (record {
@@ -29,17 +29,17 @@ loop-i-preserved g c =
           ∙ sym step ∙ c.loop-i.invariant.1,
     )
 
-pub returns-in-err-node : goal.returns-in-err-node
-returns-in-err-node g c =
+pub returns-in_err-node : goal.returns-in_err-node
+returns-in_err-node g c =
     let s = store c.args.self.now.schemas c.args.self.now.memory in
     let cs = c.args.children in
     let ks = take c.min-used.result cs in
     let i = c.loop-i.i in
     let inside : i < length ks = simp length-take (omega arith) in
-    let (e, is, from) = err_from_is_err_and c.from-residual.result c.from-residual.ensures.1 in
+    let (e, is, from) = err_from_is_err_and c.from_residual.result c.from_residual.ensures.1 in
     let step =
-    looked_missing s ks i (get_or cs i 0) c.loop-i.kin c.in-err-node.field-0.0 inside
-    (sym (get_or-take c.min-used.result cs i 0 (omega arith))) c.in-err-node.ensures
+    looked_missing s ks i (get_or cs i 0) c.loop-i.kin c.in_err-node.field-0.0 inside
+    (sym (get_or-take c.min-used.result cs i 0 (omega arith))) c.in_err-node.ensures
     in
     is ∙ ap Err from ∙ sym step ∙ c.loop-i.invariant.1
     ∙ ap (λ (n : ℕ). surveyed 0 no_kin (looked_up s (take n cs))) c.min-used.ensures

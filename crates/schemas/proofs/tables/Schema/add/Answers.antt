@@ -11,8 +11,8 @@ pub bounds-self-self : goal.bounds-self-self
 bounds-self-self c =
     (pushed c.args.self.now c.new.result _ c.new.ensures c.if-not-takes.ensures).room
 
-pub invariant-of-self : goal.invariant-of-self
-invariant-of-self c =
+pub invariant_of-self : goal.invariant_of-self
+invariant_of-self c =
     let s = c.args.self.now in
     let p = pushed s c.new.result _ c.new.ensures c.if-not-takes.ensures in
     (omega (arith, p.room), (length-set s.columns _ _ ∙ s.whole, (p.counted, (p.sound, tt))))

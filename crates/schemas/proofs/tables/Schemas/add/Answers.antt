@@ -9,9 +9,9 @@ returns-then-not-add c =
     let table = c.args.self.now.table in
     let schema = c.args.schema in
     let field : Field = record { name = c.args.name.now; dtype = c.args.dtype } in
-    let at = c.in-ok-at.at in
+    let at = c.in_ok-at.at in
     let here = c.index-self-at.result in
-    let number = c.in-ok-at.ensures in
+    let number = c.in_ok-at.ensures in
     let known = numbered_ok schema at number in
     record {
       answer =
@@ -26,9 +26,9 @@ returns c =
     let table = c.args.self.now.table in
     let schema = c.args.schema in
     let field : Field = record { name = c.args.name.now; dtype = c.args.dtype } in
-    let at = c.in-ok-at.at in
+    let at = c.in_ok-at.at in
     let here = c.index-self-at.result in
-    let number = c.in-ok-at.ensures in
+    let number = c.in_ok-at.ensures in
     let known = numbered_ok schema at number in
     record {
       answer =
@@ -40,5 +40,5 @@ returns c =
           (more_fields table at here c.add.new.self field (omega arith) c.if-not-add.ensures.after);
     }
 
-pub returns-in-err-at : goal.returns-in-err-at
-returns-in-err-at c = record { answer = search rules; after = search rules }
+pub returns-in_err-at : goal.returns-in_err-at
+returns-in_err-at c = record { answer = search rules; after = search rules }

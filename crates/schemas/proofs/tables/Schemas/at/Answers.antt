@@ -4,5 +4,5 @@ use Rattle.schemas.proofs.tables.Schemas.at.Goals as goal
 
 pub returns : goal.returns
 returns c =
-    answered c.args.schema c.in-ok-at.at Ok c.args.self.now.table c.index-self-at.result
-    c.in-ok-at.ensures (omega arith)
+    answered c.args.schema c.in_ok-at.at Ok c.args.self.now.table c.index-self-at.result
+    c.in_ok-at.ensures (omega arith)
