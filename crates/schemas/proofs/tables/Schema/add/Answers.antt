@@ -15,7 +15,12 @@ pub invariant_of-self : goal.invariant_of-self
 invariant_of-self c =
     let s = c.args.self.now in
     let p = pushed s c.new.result _ c.new.ensures c.if-not-takes.ensures in
-    (omega (arith, p.room), (length-set s.columns _ _ ∙ s.whole, (p.counted, (p.sound, tt))))
+    record {
+      few = omega (arith, p.room);
+      whole = length-set s.columns _ _ ∙ s.whole;
+      counted = p.counted;
+      sound = p.sound;
+    }
 
 pub returns : goal.returns
 returns c =
