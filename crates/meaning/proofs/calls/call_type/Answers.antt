@@ -8,8 +8,8 @@ returns g c =
     let code = c.args.code in
     let types = c.args.types.now in
     let same =
-    bound_type m code types c.type_of_tree.result c.if-not-has.ensures c.if-not-takes.ensures
-    (omega arith) c.if-not-all_plain.ensures c.type_of_tree.ensures
+    bound_type m code types c.type_of.result c.if-not-has.ensures c.if-not-takes.ensures
+    (omega arith) c.if-not-all_plain.ensures c.type_of.ensures
     in
     let law = g.met.H.Host.lawful c.args.host.now in
-    record { value = same; plain = plain_type m code types c.type_of_tree.result law same }
+    record { value = same; plain = plain_type m code types c.type_of.result law same }
