@@ -74,9 +74,9 @@ stands_ends len n x h =
     let last : Bool = ends_within len (text_of x.function) in
     (and_parts small last (and_parts older (small && last) (and_parts few (older && (small && last)) h).1).1).1
 
-all_below : (n : ℕ) (ks : List ℕ) → Below n ks → all_below n ks ≡ true
-all_below n [] w = refl
-all_below n (k ∷ ks) w = and_from (ltb k n) (all_below n ks) (lt-ltb k n w.0) (all_below n ks w.1)
+each_below : (n : ℕ) (ks : List ℕ) → Below n ks → all_below n ks ≡ true
+each_below n [] w = refl
+each_below n (k ∷ ks) w = and_from (ltb k n) (all_below n ks) (lt-ltb k n w.0) (each_below n ks w.1)
 
 ends_inside : (all : List ℕ) (o : Option Span) → EndsWithin all o → ends_within (length all) o ≡ true
 ends_inside all None h = refl
@@ -88,7 +88,7 @@ built_stands : (m : Meaning) (p : Plan) (s : Store) (x : Node) → Built m p s x
 built_stands m p s x b eight len ends =
     let n = p.count in
     let cs = p.children in
-    let below = all_below (length s.nodes) (named cs n) (found_below s (named cs n) b.records b.there) in
+    let below = each_below (length s.nodes) (named cs n) (found_below s (named cs n) b.records b.there) in
     let older = ap (all_below (length s.nodes)) (padded_named cs n eight) ∙ below in
     subst (λ (z : Node). stands len (length s.nodes) z ≡ true) (sym b.is)
     (and_from _ _

@@ -7,11 +7,12 @@ pub invariant_of-self : goal.invariant_of-self
 invariant_of-self g c =
     let e = c.push.ensures in
     let added : Added c.args.self.now.memory c.push.new.self c.args.node c.args.more.now =
-    record { nodes = e.nodes; text = e.text; records = e.records; bytes = e.bytes } in (
-      added_stand c.args.self.now.memory c.push.new.self c.args.node c.args.more.now added
-          c.args.self.now.sound c.requires.standing,
-      tt,
-    )
+    record { nodes = e.nodes; text = e.text; records = e.records; bytes = e.bytes } in
+    record {
+      sound =
+          added_stand c.args.self.now.memory c.push.new.self c.args.node c.args.more.now added
+          c.args.self.now.sound c.requires.standing;
+    }
 
 pub returns : goal.returns
 returns g c =
