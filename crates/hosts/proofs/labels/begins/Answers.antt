@@ -1,4 +1,4 @@
-use lib.Dec.{Decides-eqb}
+use Rattle.std.proofs.lemmas.Bool.Decides.{Decides-eqb}
 use Rattle.std.proofs.lemmas.Slice.Eq.{starts_is}
 use Rattle.hosts.proofs.Fronts.{begun, begins_is_a_front}
 use Rattle.hosts.proofs.labels.begins.Goals as goal
