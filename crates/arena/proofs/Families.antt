@@ -1,11 +1,11 @@
 -- What children come to, by their records.
-use Rattle.std.proofs.Common.{◌≡◌, ℕ, suc, ◌+◌, ◌≤◌, max, List, [], ◌∷◌, ◌++◌, length, take, set, Ok, sym, refl, ap, ◌∙◌, append_assoc, append-nil, arith, length-set}
+use Rattle.std.proofs.Common.{◌≡◌, ℕ, suc, ◌+◌, ◌≤◌, max, List, [], ◌∷◌, ◌++◌, length, take, Ok, sym, ap, ◌∙◌, append_assoc, append-nil, arith, length-set}
 use Rattle.std.proofs.lemmas.List.{take_more_set}
 use Rattle.vocabulary.specs.declared.nodes.Node.{Node}
 use Rattle.vocabulary.specs.declared.types.DType.{DType}
 use Rattle.model.specs.Making.{types_of, deepest, total_size, looked_up}
 use Rattle.model.specs.Stores.{Store}
-use Rattle.model.proofs.Children.{Led, led, ok_same}
+use Rattle.model.proofs.Children.{led, ok_same}
 use Rattle.arena.specs.declared.bounds.Kin.{Kin}
 use Rattle.arena.specs.Surveying.{with_child, with_more}
 

@@ -14,7 +14,7 @@ use Rattle.meaning.proofs.CaseSplits.{some_same}
 use Rattle.model.specs.Making.{build, entered}
 use Rattle.model.specs.Rebuilding.{old_plan, itself_or, rebuilt, with_children}
 use Rattle.model.specs.Shapes.{head_of}
-use Rattle.model.specs.Stores.{Store, node_at, node_among}
+use Rattle.model.specs.Stores.{Store, node_at}
 use Rattle.model.specs.Wanted.{new_head}
 use Rattle.model.proofs.Numbers.{node_below}
 use Rattle.arena.specs.declared.memory.Memory.{Memory as Held}

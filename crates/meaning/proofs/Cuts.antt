@@ -1,4 +1,4 @@
-use Rattle.std.proofs.Common.{◌≡◌, ℕ, ◌+◌, ◌-◌, min, List, length, take, drop, sym, refl, ◌∙◌, arith, rules}
+use Rattle.std.proofs.Common.{◌≡◌, ℕ, ◌+◌, ◌-◌, min, List, length, take, drop, arith, rules}
 use Rattle.std.proofs.lemmas.List.{same_lists, places}
 
 -- a part whose bounds are cut at the end is the part as far as the bytes go

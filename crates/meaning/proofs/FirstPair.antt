@@ -9,7 +9,7 @@ use Rattle.meaning.specs.LawsOfFusing.{Apart, All, left_over, FirstPair, Merging
 use Rattle.meaning.specs.Trees.{Expr, logic, node}
 use Rattle.meaning.proofs.ConjunctCases.{Single, single_conjuncts, each_map, replace_none, replace_cases, merge_cases}
 use Rattle.meaning.proofs.ConjunctCases.{merge_none}
-use Rattle.meaning.proofs.RangeForms.{pair, fuse_is_between}
+use Rattle.meaning.proofs.RangeForms.{fuse_is_between}
 
 all_append : (P : Expr → Type 0) (xs ys : List Expr) → All P xs → All P ys → All P (xs ++ ys)
 all_append P [] ys p q = q

@@ -7,7 +7,7 @@ use Rattle.vocabulary.specs.Nodes.{padded}
 use Rattle.meaning.specs.Hosts.{Meaning}
 use Rattle.meaning.specs.Trees.{Expr, size, sizes}
 use Rattle.model.specs.Stores.{Store}
-use Rattle.model.specs.Shapes.{head_of, shape, trees_by, shape_tree, tree}
+use Rattle.model.specs.Shapes.{head_of, shape, trees_by, shape_tree}
 use Rattle.model.specs.Wanted.{new_bytes}
 use Rattle.model.specs.Making.{head_counts}
 use Rattle.model.specs.Soundness.{Sound}

@@ -1,5 +1,5 @@
 -- What one step of binding does: a node made over children that are bound.
-use Rattle.std.proofs.Common.{◌≡◌, ℕ, suc, ◌+◌, ◌<◌, ◌≤◌, min, true, List, [], ◌∷◌, ◌++◌, length, take, drop, replicate, Some, Ok, Err, Result, sym, refl, ap, ◌∙◌, subst, append_assoc, arith, length-append, length-drop, length-take}
+use Rattle.std.proofs.Common.{◌≡◌, ℕ, suc, ◌<◌, ◌≤◌, min, true, List, [], ◌∷◌, ◌++◌, length, take, drop, replicate, Some, Ok, Err, Result, sym, refl, ap, ◌∙◌, subst, append_assoc, arith, length-append, length-drop, length-take}
 use Rattle.std.proofs.lemmas.List.{take_at, take_all}
 use Rattle.std.proofs.lemmas.Bool.{eqb-true}
 use Rattle.vocabulary.specs.declared.nodes.Function.{Function}
@@ -10,7 +10,7 @@ use Rattle.vocabulary.specs.Nodes.{padded}
 use Rattle.meaning.specs.Hosts.{Meaning}
 use Rattle.meaning.specs.Trees.{Expr, cons, nil, logic, node, size, sizes}
 use Rattle.model.specs.Stores.{Store, node_among, node_at, grown}
-use Rattle.model.specs.Shapes.{Head, join, over, head_of, shaped, trees_by, shape_tree, tree_among, tree, trees}
+use Rattle.model.specs.Shapes.{Head, join, over, head_of, shaped, trees_by, shape_tree, tree_among, tree}
 use Rattle.model.specs.Wanted.{New, new_bytes, new_head}
 use Rattle.model.specs.Making.{named, head_counts, build, entered}
 use Rattle.model.specs.Soundness.{Sound}

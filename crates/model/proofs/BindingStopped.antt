@@ -4,7 +4,7 @@ use Rattle.vocabulary.specs.declared.refusals.Refusal.{Refusal}
 use Rattle.meaning.specs.Hosts.{Meaning}
 use Rattle.meaning.specs.Trees.{Expr, size, sizes}
 use Rattle.model.specs.Stores.{Store}
-use Rattle.model.specs.Shapes.{trees_by, tree}
+use Rattle.model.specs.Shapes.{trees_by}
 use Rattle.model.specs.Soundness.{Sound}
 use Rattle.model.specs.Unbound.{UnboundNode}
 use Rattle.model.specs.BindingTrees.{onward, bind_all}

@@ -14,13 +14,13 @@ use Rattle.meaning.specs.Trees.{Expr, logic}
 use Rattle.meaning.specs.Typing.{typed, typed_all, fn_type, logic_type}
 use Rattle.meaning.proofs.CaseSplits.{and_then_none}
 use Rattle.model.specs.Stores.{Store}
-use Rattle.model.specs.Shapes.{Head, join, over, shape, shaped, trees_by, shape_tree}
+use Rattle.model.specs.Shapes.{Head, join, over, shaped, trees_by, shape_tree}
 use Rattle.model.specs.Making.{head_counts}
 use Rattle.model.specs.Soundness.{Below}
 use Rattle.model.specs.Unbound.{UnboundNode, UnboundStore, unbound_at, unbound_kids, seen, tree_for}
 use Rattle.model.specs.UnboundMaking.{any_host}
 use Rattle.model.specs.UnboundSoundness.{SoundUnbound, SoundUnboundNode}
-use Rattle.model.specs.LawsOfRefusedBinding.{OneOf, StandsIn, itself, under, head_for, Cause, unbindable}
+use Rattle.model.specs.LawsOfRefusedBinding.{OneOf, StandsIn, itself, under, head_for, Cause}
 use Rattle.model.specs.LawsOfRefusedBinding.{RefusedBinding, no_node, no_schema, work_short, at_node}
 use Rattle.model.specs.LawsOfRefusedBinding.{TypesRefuseNoTreeThatBinds}
 use Rattle.model.proofs.Children.{pair}

@@ -20,7 +20,7 @@ use Rattle.meaning.specs.Values.{Value, null, bool, signed, unsigned, text, ext,
 use Rattle.meaning.specs.Comparing.{bytes_of}
 use Rattle.meaning.proofs.CaseSplits.{none_some, some_same, cond_some, false_true}
 use Rattle.model.specs.Stores.{Store}
-use Rattle.model.specs.Shapes.{over, head, head_of}
+use Rattle.model.specs.Shapes.{over, head_of}
 use Rattle.model.specs.Wanted.{New, root, literal, get_item, cast, binary, between, host}
 use Rattle.model.specs.Wanted.{placed_behind}
 use Rattle.model.specs.Making.{Plan, named, looked_up, check, head_known, head_counts, head_type, types_of}

@@ -1,10 +1,9 @@
-use Rattle.std.proofs.Common.{◌≡◌, ℕ, ◌+◌, ◌<◌, min, max, length, get_or, take, drop, set, Err, sym, ap, ◌∙◌, arith, length-take, rules}
+use Rattle.std.proofs.Common.{ℕ, ◌+◌, ◌<◌, length, get_or, take, drop, set, Err, sym, ap, ◌∙◌, arith, length-take}
 use Rattle.std.proofs.lemmas.List.{get_or-take}
 use Rattle.std.proofs.lemmas.Result.{err_from_is_err_and}
 use Rattle.model.specs.Making.{looked_up}
-use Rattle.arena.specs.declared.bounds.Kin.{Kin}
 use Rattle.arena.specs.Opened.{store}
-use Rattle.arena.specs.Surveying.{surveyed, no_kin, with_child}
+use Rattle.arena.specs.Surveying.{surveyed, no_kin}
 use Rattle.arena.proofs.Looking.{looked_there, looked_missing, looked_end}
 use Rattle.arena.proofs.arena.Arena.survey.Goals as goal
 

@@ -1,4 +1,4 @@
-use Rattle.std.proofs.Common.{◌≡◌, ◌*◌, ◌≤◌, length, take, drop}
+use Rattle.std.proofs.Common.{◌≡◌, ◌*◌, ◌≤◌, take, drop}
 use Rattle.model.specs.Making.{looked_up}
 use Rattle.arena.specs.Opened.{store}
 use Rattle.arena.specs.Surveying.{surveyed, no_kin}
