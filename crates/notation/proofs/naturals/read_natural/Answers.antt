@@ -1,4 +1,4 @@
-use Rattle.std.proofs.Common.{sym, ◌∙◌, arith, rules}
+use Rattle.std.proofs.Common.{sym, ◌∙◌, arith}
 use Rattle.notation.proofs.Digits.{digit_taken, digit_refused, digits_end, some_digits}
 use Rattle.notation.proofs.naturals.read_natural.Goals as goal
 
