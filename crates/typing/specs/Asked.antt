@@ -1,5 +1,4 @@
 -- What is asked for, from the code's types to the model's.
-use Rattle.std.specs.Prelude.{ℕ}
 use Rattle.meaning.specs.Values.{Value, null, bool, signed, unsigned, text, ext}
 use Rattle.model.specs.Wanted.{New, root, literal, get_item, cast, binary, between, host}
 use Rattle.typing.specs.declared.asking.NewLiteral.{NewLiteral}

@@ -1,4 +1,4 @@
-use Rattle.std.proofs.Common.{◌≡◌, length, sym, ap, ◌∙◌, arith}
+use Rattle.std.proofs.Common.{sym, ap, ◌∙◌, arith}
 use Rattle.schemas.specs.Tables.{all_fields}
 use Rattle.typing.specs.Typing.{type_found}
 use Rattle.typing.proofs.Sought.{column_sought, column_past}

@@ -1,0 +1,142 @@
+-- What is drafted check by check is what its plan comes to.
+use Rattle.std.proofs.Common.{◌≡◌, ℕ, suc, ◌+◌, min, Bool, true, false, cond, ltb, leb, List, [], ◌∷◌, length, take, Ok, Err, vec_items, vec_len, Result, sym, refl, ap, ◌∙◌, add-one, arith, length-take}
+use Rattle.std.proofs.lemmas.List.{length-reverse}
+use Rattle.vocabulary.specs.declared.nodes.Function.{Function}
+use Rattle.vocabulary.specs.declared.nodes.Node.{Node}
+use Rattle.vocabulary.specs.declared.refusals.BindingRefusal.{BindingRefusal}
+use Rattle.vocabulary.specs.declared.refusals.BindingRefusal.TheVariants.{TooDeep, TooLarge}
+use Rattle.vocabulary.specs.declared.refusals.MemoryRefusal.{MemoryRefusal}
+use Rattle.vocabulary.specs.declared.refusals.MemoryRefusal.TheVariants.{RecordsFull, TextFull}
+use Rattle.vocabulary.specs.declared.refusals.Refusal.{Refusal}
+use Rattle.vocabulary.specs.declared.refusals.Refusal.TheVariants.{Memory, Binding}
+use Rattle.vocabulary.specs.declared.types.DType.{DType}
+use Rattle.vocabulary.specs.declared.values.Span.{Span}
+use Rattle.vocabulary.specs.Nodes.{recorded}
+use Rattle.meaning.specs.Columns.{Schemas}
+use Rattle.model.specs.Making.{Plan, named, looked_up, with_record, check, types_of, deepest, total_size}
+use Rattle.model.specs.Stores.{Store, node_at}
+use Rattle.model.specs.Wanted.{New, behind}
+use Rattle.typing.specs.Typing.{Typing}
+use Rattle.arenas.specs.declared.bounds.Draft.{Draft}
+use Rattle.arenas.specs.declared.memory.Memory.{Memory as Held}
+use Rattle.arenas.specs.Building.{sized_as, typed_over, build_by}
+use Rattle.arenas.specs.Drafting.{then, in_memory, in_binding, drafted, drafted_over, noted}
+use Rattle.arenas.specs.Opened.{store}
+use Rattle.arenas.specs.Placing.{room_in}
+use Rattle.arenas.specs.Surveying.{surveyed, no_kin, with_more, deeper, larger}
+use Rattle.arenas.proofs.Families.{more_depth, more_size, more_types, looked_length}
+
+-- the room that is left, by the numbers of records and bytes
+abbrev room_by : ℕ → ℕ → ℕ → ℕ → ℕ → ℕ → Result Span MemoryRefusal
+room_by place used records len more bytes =
+    cond (ltb used records)
+    (cond (leb (len + more) bytes) (Ok (record { start = len; len = more })) (Err (TextFull place)))
+    (Err (RecordsFull place))
+
+-- the same of the memory and of the store
+pub nodes_length : (ss : Schemas) (h : Held) → vec_len h.nodes ≡ length (store ss h).nodes
+nodes_length ss h = h.nodes.ok.0 ∙ sym (length-reverse (vec_items h.nodes))
+
+room_is : (ss : Schemas) (h : Held) (place more : ℕ)
+    → room_in place h more
+    ≡ room_by place (length (store ss h).nodes) h.records (length (store ss h).text) more h.bytes
+room_is ss h place more =
+    ap (λ (n : ℕ). room_by place n h.records (vec_len h.text) more h.bytes) (nodes_length ss h)
+    ∙ ap (λ (n : ℕ). room_by place (length (store ss h).nodes) h.records n more h.bytes) h.text.ok.0
+
+-- what is looked up does not depend on the schemas
+looked_same : (s r : Store) → s.nodes ≡ r.nodes → (ks : List ℕ) → looked_up s ks ≡ looked_up r ks
+looked_same s r e [] = refl
+looked_same s r e (k ∷ ks) = rw e (ap (with_record k (node_at r k)) (looked_same s r e ks))
+
+-- the checks of a draft, by what they test
+abbrev chain : ℕ → (Span → Function) → List ℕ → ℕ
+    → Result DType BindingRefusal → ℕ → ℕ → Result Span MemoryRefusal → Result Node Refusal
+chain place f cs n type d z room =
+    then (in_binding type (λ t.
+    in_binding (deeper place d) (λ e.
+    in_binding (larger place z) (λ y.
+    in_memory room (λ q.
+    Ok (record { dtype = t; depth = e; size = y; span = q }))))))
+    (λ (b : Draft). Ok (noted (f b.span) cs n b))
+
+module _ (p : Plan) (f : Span → Function) (q : Span) (is : f q ≡ p.function) where
+  -- depth, size and room
+  ends : (t : DType) (d z : ℕ) (deep large free long : Bool)
+      → then (in_binding (cond deep (Ok (d + 1)) (Err (TooDeep p.place))) (λ e.
+      in_binding (cond large (Ok (z + 1)) (Err (TooLarge p.place))) (λ y.
+      in_memory (cond free (cond long (Ok q) (Err (TextFull p.place))) (Err (RecordsFull p.place))) (λ r.
+      Ok (record { dtype = t; depth = e; size = y; span = r })))))
+      (λ (b : Draft). Ok (noted (f b.span) p.children p.count b))
+      ≡ check deep (Binding (TooDeep p.place))
+      (check large (Binding (TooLarge p.place))
+      (check free (Memory (RecordsFull p.place))
+      (check long (Memory (TextFull p.place))
+      (Ok (recorded p.function p.children p.count t (suc d) (suc z))))))
+  ends t d z false large free long = refl
+  ends t d z true false free long = refl
+  ends t d z true true false long = refl
+  ends t d z true true true false = refl
+  ends t d z true true true true =
+      ap (λ (g : Function). Ok (recorded g p.children p.count t (d + 1) (z + 1))) is
+      ∙ ap (λ (e : ℕ). Ok (recorded p.function p.children p.count t e (z + 1))) (add-one d)
+      ∙ ap (λ (y : ℕ). Ok (recorded p.function p.children p.count t (suc d) y)) (add-one z)
+
+  -- all of them
+  chained : (s : Store) (xs : List Node) (type : Result DType BindingRefusal)
+      → chain p.place f p.children p.count type (deepest xs) (total_size xs)
+      (cond (ltb (length s.nodes) s.records)
+      (cond (leb (length s.text + length p.adds) s.bytes) (Ok q) (Err (TextFull p.place)))
+      (Err (RecordsFull p.place)))
+      ≡ sized_as p s xs type
+  chained s xs (Err e) = refl
+  chained s xs (Ok t) =
+      ends t (deepest xs) (total_size xs) (ltb (deepest xs) 256) (ltb (total_size xs) 4096)
+      (ltb (length s.nodes) s.records) (leb (length s.text + length p.adds) s.bytes)
+
+-- the types that were gathered are those of the records
+types_gathered : (s : Store) (cs : List ℕ) (n : ℕ) (xs : List Node) → length cs ≡ 8 → looked_up s (named cs n) ≡ Ok xs
+    → take (min n 8) (with_more 0 no_kin xs).types ≡ types_of xs
+types_gathered s cs n xs eight e =
+    let l : length (take (min n 8) cs) ≡ min n 8 = simp length-take (omega arith) in
+    let k : min n 8 ≡ 0 + length xs = omega (arith, looked_length s (named cs n) xs e) in
+    ap (λ (i : ℕ). take i (with_more 0 no_kin xs).types) k ∙ more_types 0 no_kin xs (omega arith)
+
+-- what is drafted is what the plan comes to
+pub draft_is : (ss : Schemas) (h : Held) (typing : Typing) (p : Plan) (w : New) (f : Span → Function)
+    → f (behind (store ss h).text p.adds) ≡ p.function → length p.children ≡ 8
+    → then (drafted typing h p.place w p.children p.count (length p.adds))
+    (λ (b : Draft). Ok (noted (f b.span) p.children p.count b))
+    ≡ build_by (typing p.place w p.count) p (store ss h)
+unfolding build_by
+draft_is ss h typing p w f function eight =
+    ap (λ (r : Result (List Node) ℕ). then (then (surveyed 0 no_kin r) (λ k.
+    drafted_over typing h p.place w p.count (length p.adds) k))
+    (λ (b : Draft). Ok (noted (f b.span) p.children p.count b)))
+    (looked_same (store [] h) (store ss h) refl (named p.children p.count))
+    ∙ go (looked_up (store ss h) (named p.children p.count)) refl
+  where
+    go : (r : Result (List Node) ℕ) → looked_up (store ss h) (named p.children p.count) ≡ r
+        → then (then (surveyed 0 no_kin r) (λ k.
+        drafted_over typing h p.place w p.count (length p.adds) k))
+        (λ (b : Draft). Ok (noted (f b.span) p.children p.count b))
+        ≡ typed_over (typing p.place w p.count) p (store ss h) r
+    go (Err k) e = refl
+    go (Ok xs) e =
+        let s = store ss h in
+        let place = p.place in
+        let cs = p.children in
+        let n = p.count in
+        let kin = with_more 0 no_kin xs in
+        let d : kin.depth ≡ deepest xs = omega (arith, more_depth 0 no_kin xs) in
+        let z : kin.size ≡ total_size xs = omega (arith, more_size 0 no_kin xs) in
+        let room = room_is ss h place (length p.adds) in
+        ap (λ (ts : List DType). chain place f cs n (typing place w n ts) kin.depth kin.size
+        (room_in place h (length p.adds))) (types_gathered s cs n xs eight e)
+        ∙ ap (λ (y : ℕ). chain place f cs n (typing place w n (types_of xs)) y kin.size
+        (room_in place h (length p.adds))) d
+        ∙ ap (λ (y : ℕ). chain place f cs n (typing place w n (types_of xs)) (deepest xs) y
+        (room_in place h (length p.adds))) z
+        ∙ ap (λ (r : Result Span MemoryRefusal). chain place f cs n (typing place w n (types_of xs)) (deepest xs)
+        (total_size xs) r) room
+        ∙ chained p f (behind s.text p.adds) function s xs (typing place w n (types_of xs))

@@ -1,0 +1,10 @@
+pub mod AsModelled
+pub mod AsUnbound
+pub mod Drafts
+pub mod Families
+pub mod Kept
+pub mod Looking
+pub mod Made
+pub mod Numbered
+pub mod Remade
+pub mod Stands

@@ -1,0 +1,226 @@
+-- Records that are entered stand, and those before them still do.
+use Rattle.std.proofs.Common.{◌≡◌, ℕ, suc, ◌+◌, ◌<◌, ◌≤◌, min, Bool, true, false, cond, ◌&&◌, eqb, ltb, leb, List, [], ◌∷◌, ◌++◌, reverse, length, Some, None, Ok, Err, vec_items, vec_len, Option, Result, sym, refl, ap, ◌∙◌, subst, arith}
+use Rattle.std.proofs.lemmas.List.{reverse-append}
+use Rattle.std.proofs.lemmas.Bool.{and_parts, and_from, leb-true, ltb-true, le-leb, eq-eqb, eqb-true}
+use Rattle.vocabulary.specs.declared.nodes.Node.{Node}
+use Rattle.vocabulary.specs.declared.refusals.BindingRefusal.{BindingRefusal}
+use Rattle.vocabulary.specs.declared.types.DType.{DType}
+use Rattle.vocabulary.specs.declared.values.Span.{Span}
+use Rattle.vocabulary.specs.Nodes.{text_of}
+use Rattle.meaning.specs.Columns.{Schemas}
+use Rattle.meaning.proofs.CaseSplits.{none_some, some_same}
+use Rattle.model.specs.Making.{Plan, named, looked_up, with_record, types_of, deepest, total_size, new_record}
+use Rattle.model.specs.Shapes.{kids}
+use Rattle.model.specs.Soundness.{EndsWithin}
+use Rattle.model.specs.Stores.{Store, node_among, grown}
+use Rattle.model.proofs.Children.{err_ok, ok_same}
+use Rattle.model.proofs.Growing.{padded_named, padded_eight}
+use Rattle.model.proofs.Plans.{checked}
+use Rattle.arenas.specs.declared.memory.Memory.{Memory as Held}
+use Rattle.arenas.specs.Building.{sized_as, typed_over, build_by}
+use Rattle.arenas.specs.Opened.{store}
+use Rattle.arenas.specs.Standing.{found_among, ends_within, measures, stands, all_stand}
+use Rattle.arenas.proofs.Drafts.{nodes_length}
+
+ends_more : (len more : ℕ) (o : Option Span) → ends_within len o ≡ true → ends_within (len + more) o ≡ true
+ends_more len more None h = refl
+ends_more len more (Some p) h =
+    le-leb (p.start + p.len) (len + more) (omega (arith, leb-true (p.start + p.len) len h))
+
+-- the parts of a record that stands
+pub record Stood (len : ℕ) (older : List Node) (x : Node) : Type 0 where
+  pub few : leb x.child_count 8 && eqb (length x.children) 8 ≡ true
+  pub measured : measures x (found_among older (kids x)) ≡ true
+  pub inside : ends_within len (text_of x.function) ≡ true
+
+pub stood : (len : ℕ) (older : List Node) (x : Node) → stands len older x ≡ true → Stood len older x
+stood len older x h =
+    let small : Bool = leb x.child_count 8 && eqb (length x.children) 8 in
+    let level : Bool = measures x (found_among older (kids x)) in
+    let last : Bool = ends_within len (text_of x.function) in
+    let (a, h2) = and_parts small (level && last) h in
+    let (b, c) = and_parts level last h2 in
+    record { few = a; measured = b; inside = c }
+
+pub stands_by : (len : ℕ) (older : List Node) (x : Node) → Stood len older x → stands len older x ≡ true
+stands_by len older x s =
+    let small : Bool = leb x.child_count 8 && eqb (length x.children) 8 in
+    let level : Bool = measures x (found_among older (kids x)) in
+    let last : Bool = ends_within len (text_of x.function) in
+    and_from small (level && last) s.few (and_from level last s.measured s.inside)
+
+-- a record stands in a longer text
+stands_more : (len more : ℕ) (older : List Node) (x : Node) → stands len older x ≡ true
+    → stands (len + more) older x ≡ true
+stands_more len more older x h =
+    let s = stood len older x h in
+    stands_by (len + more) older x (record {
+      few = s.few;
+      measured = s.measured;
+      inside = ends_more len more (text_of x.function) s.inside;
+    })
+
+-- all records stand in a longer text
+pub all_stand_more : (len more : ℕ) (xs : List Node) → all_stand len xs ≡ true → all_stand (len + more) xs ≡ true
+all_stand_more len more [] h = refl
+all_stand_more len more (x ∷ xs) h =
+    let (a, b) = and_parts (stands len xs x) (all_stand len xs) h in
+    and_from (stands (len + more) xs x) (all_stand (len + more) xs) (stands_more len more xs x a)
+    (all_stand_more len more xs b)
+
+-- where a record of a number lies, and that it stands there
+pub record Lies (len : ℕ) (xs : List Node) (k : ℕ) (x : Node) : Type 0 where
+  pub newer : List Node
+  pub older : List Node
+  pub whole : xs ≡ newer ++ (x ∷ older)
+  pub number : k ≡ length older
+  pub there : stands len older x ≡ true
+
+pub lies : (len : ℕ) (xs : List Node) (k : ℕ) (x : Node) → all_stand len xs ≡ true → node_among xs k ≡ Some x
+    → Lies len xs k x
+unfolding node_among
+lies len [] k x h e = none_some x e
+lies len (y ∷ ys) k x h e = go (lies len ys k x parts.1) (eqb k (length ys)) refl e
+  where
+    parts : (stands len ys y ≡ true) × (all_stand len ys ≡ true)
+    parts = and_parts (stands len ys y) (all_stand len ys) h
+
+    go : (node_among ys k ≡ Some x → Lies len ys k x)
+        → (b : Bool) → eqb k (length ys) ≡ b → cond b (Some y) (node_among ys k) ≡ Some x → Lies len (y ∷ ys) k x
+    go rest true i f =
+        let same = some_same f in
+        record {
+          newer = [];
+          older = ys;
+          whole = ap (λ (z : Node). z ∷ ys) same;
+          number = eqb-true k (length ys) i;
+          there = subst (λ (z : Node). stands len ys z ≡ true) same parts.0;
+        }
+    go rest false i f =
+        let l = rest f in
+        record {
+          newer = y ∷ l.newer;
+          older = l.older;
+          whole = ap (λ (zs : List Node). y ∷ zs) l.whole;
+          number = l.number;
+          there = l.there;
+        }
+
+-- what is looked up in a store is found among its nodes
+pub looked_found : (s : Store) (ks : List ℕ) → looked_up s ks ≡ found_among s.nodes ks
+looked_found s [] = refl
+looked_found s (k ∷ ks) = ap (with_record k (node_among s.nodes k)) (looked_found s ks)
+
+-- what a granted plan has passed
+pub record Built (p : Plan) (s : Store) (x : Node) : Type 0 where
+  pub records : List Node
+  pub type : DType
+  pub there : looked_up s (named p.children p.count) ≡ Ok records
+  pub shallow : suc (deepest records) ≤ 256
+  pub small : suc (total_size records) ≤ 4096
+  pub room : length s.nodes < s.records
+  pub text_room : length s.text + length p.adds ≤ s.bytes
+  pub is : x ≡ new_record p type records
+
+pub built : (types : List DType → Result DType BindingRefusal) (p : Plan) (s : Store) (x : Node)
+    → build_by types p s ≡ Ok x → Built p s x
+unfolding build_by
+built types p s x e = over (looked_up s (named p.children p.count)) refl e
+  where
+    typed : (xs : List Node) → looked_up s (named p.children p.count) ≡ Ok xs
+        → (t : Result DType BindingRefusal) → sized_as p s xs t ≡ Ok x → Built p s x
+    typed xs a (Err r) h = err_ok _ x h
+    typed xs a (Ok t) h =
+        let (deep, h2) = checked (leb (suc (deepest xs)) 256) _ _ x h in
+        let (large, h3) = checked (leb (suc (total_size xs)) 4096) _ _ x h2 in
+        let (free, h4) = checked (ltb (length s.nodes) s.records) _ _ x h3 in
+        let (long, h5) = checked (leb (length s.text + length p.adds) s.bytes) _ _ x h4 in
+        record {
+          records = xs;
+          type = t;
+          there = a;
+          shallow = leb-true (suc (deepest xs)) 256 deep;
+          small = leb-true (suc (total_size xs)) 4096 large;
+          room = ltb-true (length s.nodes) s.records free;
+          text_room = leb-true (length s.text + length p.adds) s.bytes long;
+          is = sym (ok_same h5);
+        }
+
+    over : (r : Result (List Node) ℕ) → looked_up s (named p.children p.count) ≡ r
+        → typed_over types p s r ≡ Ok x → Built p s x
+    over (Err k) a h = err_ok _ x h
+    over (Ok xs) a h = typed xs a (types (types_of xs)) h
+
+-- a record that a plan comes to stands
+built_stands : (p : Plan) (s : Store) (x : Node) → Built p s x → length p.children ≡ 8
+    → (len : ℕ) → ends_within len (text_of p.function) ≡ true → stands len s.nodes x ≡ true
+built_stands p s x b eight len ends =
+    let n = p.count in
+    let cs = p.children in
+    let y = new_record p b.type b.records in
+    let found : found_among s.nodes (kids y) ≡ Ok b.records =
+    ap (found_among s.nodes) (padded_named cs n eight) ∙ sym (looked_found s (named cs n)) ∙ b.there in
+    subst (λ (z : Node). stands len s.nodes z ≡ true) (sym b.is)
+    (stands_by len s.nodes y (record {
+      few = and_from _ _ (le-leb (min n 8) 8 (omega arith)) (eq-eqb _ 8 (padded_eight cs n eight));
+      measured =
+          ap (measures y) found
+          ∙ and_from _ _
+          (and_from _ _ (eq-eqb (suc (deepest b.records)) _ refl) (eq-eqb (suc (total_size b.records)) _ refl))
+          (and_from _ _ (le-leb (suc (deepest b.records)) 256 b.shallow)
+          (le-leb (suc (total_size b.records)) 4096 b.small));
+      inside = ends;
+    }))
+
+-- there is room for a record and for bytes, and the record stands
+pub record FitsIn (h : Held) (x : Node) (more : ℕ) : Type 0 where
+  pub room : vec_len h.nodes < h.records
+  pub text_room : vec_len h.text + more ≤ h.bytes
+  pub stands_there : stands (vec_len h.text + more) (reverse (vec_items h.nodes)) x ≡ true
+
+-- what a plan comes to fits
+pub build_fits : (types : List DType → Result DType BindingRefusal) (ss : Schemas) (h : Held) (p : Plan) (x : Node)
+    → length p.children ≡ 8
+    → ends_within (vec_len h.text + length p.adds) (text_of p.function) ≡ true
+    → build_by types p (store ss h) ≡ Ok x → FitsIn h x (length p.adds)
+build_fits types ss h p x eight ends e =
+    let b = built types p (store ss h) x e in
+    record {
+      room = omega (arith, b.room, nodes_length ss h);
+      text_room = omega (arith, b.text_room, h.text.ok.0);
+      stands_there = built_stands p (store ss h) x b eight (vec_len h.text + length p.adds) ends;
+    }
+
+pub ends_inside : (all : List ℕ) (o : Option Span) → EndsWithin all o → ends_within (length all) o ≡ true
+ends_inside all None h = refl
+ends_inside all (Some p) h = le-leb (p.start + p.len) (length all) h
+
+-- all records stand after one was added behind them, and bytes behind the text
+pub added_stand : (h : Held) (xs : List Node) (len : ℕ) (x : Node) (more : List ℕ)
+    → xs ≡ vec_items h.nodes ++ (x ∷ []) → len ≡ vec_len h.text + length more
+    → stands (vec_len h.text + length more) (reverse (vec_items h.nodes)) x ≡ true
+    → all_stand len (reverse xs) ≡ true
+added_stand h xs len x more nodes longer new =
+    let old = vec_items h.nodes in
+    let size = vec_len h.text in
+    ap (λ (k : ℕ). all_stand k (reverse xs)) longer
+    ∙ ap (λ (zs : List Node). all_stand (size + length more) (reverse zs)) nodes
+    ∙ ap (all_stand (size + length more)) (reverse-append old (x ∷ []))
+    ∙ and_from (stands (size + length more) (reverse old) x) (all_stand (size + length more) (reverse old)) new
+    (all_stand_more size (length more) (reverse old) h.sound)
+
+same_store : (ss : Schemas) (a b : List Node) (t u : List ℕ) (r q n k : ℕ)
+    → a ≡ b → t ≡ u → r ≡ q → n ≡ k
+    → ◌≡◌ {A = Store} (record { schemas = ss; nodes = a; text = t; records = r; bytes = n })
+    (record { schemas = ss; nodes = b; text = u; records = q; bytes = k })
+same_store ss a b t u r q n k e f g h = cc
+
+-- and the store has grown by it
+pub added_grown : (ss : Schemas) (h : Held) (xs : List Node) (text : List ℕ) (x : Node) (more : List ℕ)
+    → xs ≡ vec_items h.nodes ++ (x ∷ []) → text ≡ vec_items h.text ++ more
+    → ◌≡◌ {A = Store}
+    (record { schemas = ss; nodes = reverse xs; text = text; records = h.records; bytes = h.bytes })
+    (grown x more (store ss h))
+added_grown ss h xs text x more nodes bytes =
+    same_store ss _ _ _ _ _ _ _ _
+    (ap (λ (z : List Node). reverse z) nodes ∙ reverse-append (vec_items h.nodes) (x ∷ [])) bytes refl refl

@@ -1,0 +1,22 @@
+use Rattle.std.proofs.Common.{ℕ, Result, refl, ap, ◌∙◌}
+use Rattle.vocabulary.specs.declared.refusals.Refusal.{Refusal}
+use Rattle.schemas.specs.Tables.{all_fields}
+use Rattle.model.specs.Stores.{Store}
+use Rattle.typing.specs.Asked.{new_of}
+use Rattle.arenas.specs.Opened.{opened}
+use Rattle.arenas.proofs.AsModelled.{makes_new}
+use Rattle.arenas.proofs.arena.Arena.make.Goals as goal
+
+pub returns : goal.returns
+returns g c =
+    let m = g.H.Host.meaning c.args.self.now.binder.host in
+    let ss = c.args.self.now.binder.schemas in
+    let made =
+    makes_new m (new_of c.args.function) c.args.children c.args.count (opened ss c.args.self.now.memory)
+    c.in_ok-check_schema.ensures
+    in
+    record {
+      answer = c.make.ensures.answer (all_fields ss) ∙ ap (λ (z : Result ℕ Refusal × Store). z.0) made;
+      after = c.make.ensures.after (all_fields ss) ∙ ap (λ (z : Result ℕ Refusal × Store). z.1) made;
+      binder = refl;
+    }

@@ -1,0 +1,20 @@
+use Rattle.std.proofs.Common.{ℕ, Result, refl, ap, ◌∙◌}
+use Rattle.vocabulary.specs.declared.refusals.Refusal.{Refusal}
+use Rattle.schemas.specs.Tables.{all_fields}
+use Rattle.model.specs.Stores.{Store}
+use Rattle.arenas.specs.Opened.{opened}
+use Rattle.arenas.proofs.AsModelled.{rebuilds_bound}
+use Rattle.arenas.proofs.arena.Arena.rebuild.Goals as goal
+
+pub returns : goal.returns
+returns g c =
+    let m = g.H.Host.meaning c.args.self.now.binder.host in
+    let ss = c.args.self.now.binder.schemas in
+    let anew =
+    rebuilds_bound m c.args.node c.args.children c.args.count (opened ss c.args.self.now.memory)
+    in
+    record {
+      answer = c.rebuild.ensures.answer (all_fields ss) ∙ ap (λ (z : Result ℕ Refusal × Store). z.0) anew;
+      after = c.rebuild.ensures.after (all_fields ss) ∙ ap (λ (z : Result ℕ Refusal × Store). z.1) anew;
+      binder = refl;
+    }

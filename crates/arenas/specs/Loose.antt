@@ -1,0 +1,36 @@
+-- Unbound nodes in the memory that bound ones have, each with a type that nothing reads.
+use Rattle.std.specs.Prelude.{Bool, true, false, not, ◌&&◌, List, [], ◌∷◌, map, ◌==◌}
+use Rattle.vocabulary.specs.declared.nodes.Node.{Node}
+use Rattle.vocabulary.specs.declared.types.Kind.{Kind}
+use Rattle.vocabulary.specs.declared.types.Kind.TheVariants as kind
+use Rattle.vocabulary.specs.declared.unbound.UnboundNode.{UnboundNode as Record}
+use Rattle.model.specs.Stores.{Store}
+use Rattle.model.specs.Unbound.{UnboundNode, UnboundStore, untyped}
+
+-- the kind that every unbound node is written down with
+abbrev pub is_filler : Kind → Bool
+is_filler kind.Bool = false
+is_filler kind.I64 = false
+is_filler kind.U64 = false
+is_filler kind.Utf8 = false
+is_filler (kind.Extension e) = false
+is_filler (kind.Row q) = q == 0
+
+-- each of the records has the type of unbound nodes
+abbrev pub all_loose : List Node → Bool
+all_loose [] = true
+all_loose (x ∷ xs) = (is_filler x.dtype.kind && not x.dtype.nullable) && all_loose xs
+
+-- a store without its types
+abbrev pub loosened : Store → UnboundStore
+loosened s = record { nodes = map untyped s.nodes; text = s.text; records = s.records; bytes = s.bytes }
+
+-- the record of an unbound node as the model has it
+abbrev pub as_record : Record → UnboundNode
+as_record x = record {
+  function = x.function;
+  children = x.children;
+  child_count = x.child_count;
+  depth = x.depth;
+  size = x.size;
+}

@@ -1,0 +1,91 @@
+ghost use Rattle.std.specs.Prelude.{◌≡◌, []};
+ghost use Rattle.vocabulary.specs.Types.{carried};
+ghost use Rattle.meaning.specs.Columns.{Schemas};
+ghost use Rattle.meaning.specs.HostCode.{read};
+ghost use Rattle.typing.specs.Asked.{new_of, value_of};
+ghost use Rattle.arenas.specs.Building.{rebuild_by};
+ghost use Rattle.arenas.specs.Opened.{store};
+ghost use Rattle.arenas.specs.Rebuilding.{again, is_itself};
+
+use crate::memory::Memory;
+use meaning::texts::bytes_of;
+use typing::asking::{NewFunction, NewLiteral};
+use typing::typist::Typist;
+use vocabulary::nodes::{Function, Node};
+use vocabulary::refusals::Refusal;
+use vocabulary::types::Kind;
+use vocabulary::values::Value;
+
+impl Memory {
+    /// Makes a node of the same function, on the same text, over the first `count` of the children. A Root with no
+    /// children is itself.
+    pub(crate) fn rebuild<T: Typist>(
+        &mut self,
+        typist: &T,
+        node: u32,
+        children: [u32; 8],
+        count: u8,
+    ) -> Result<u32, Refusal>
+        ensures answer { (ss : Schemas) → result ≡ (rebuild_by (T.Typist.typing typist.now) node
+            children count (store ss self.old)).0 }
+        ensures after { (ss : Schemas) → store ss self.new ≡ (rebuild_by
+            (T.Typist.typing typist.now) node children count (store ss self.old)).1 }
+    {
+        let old = *self.node(node)?;
+        if is_itself(old.function, count) {
+            return Ok(node);
+        }
+        let asked = self.asked_again(&old);
+        let draft = self.draft(typist, node, &asked, children, count, 0)?;
+        Ok(self.enter(draft.record(old.function, children, count), &[]))
+    }
+
+    /// What the node was asked for, its text as it was recorded.
+    fn asked_again(&self, node: &Node) -> NewFunction<'_>
+        ensures { new_of result
+            ≡ again self.now.text.items node.now.dtype node.now.function }
+    {
+        match node.function {
+            Function::Root => NewFunction::Root(carried(node.dtype.kind())),
+            Function::Literal(dtype, value) => {
+                NewFunction::Literal(dtype, self.literal_again(value))
+            }
+            Function::GetItem(name) => NewFunction::GetItem(self.text_at(name)),
+            Function::Cast(dtype) => NewFunction::Cast(dtype),
+            Function::Binary(operator) => NewFunction::Binary(operator),
+            Function::Between(options) => NewFunction::Between(options),
+            Function::Host(code) => NewFunction::Host(code),
+        }
+    }
+
+    /// What the literal was asked for.
+    fn literal_again(&self, value: Value) -> NewLiteral<'_>
+        ensures { value_of result ≡ read self.now.text.items [] value }
+    {
+        match value {
+            Value::Null => NewLiteral::Null,
+            Value::Bool(b) => NewLiteral::Bool(b),
+            Value::I64(x) => NewLiteral::I64(x),
+            Value::U64(x) => NewLiteral::U64(x),
+            Value::Utf8(text) => NewLiteral::Utf8(bytes_of(text, self.text.as_slice(), &[])),
+            Value::Extension(e, x) => NewLiteral::Extension(e, x),
+        }
+    }
+}
+
+/// Whether a node over so many children is itself: a Root over none.
+fn is_itself(function: Function, count: u8) -> bool
+    ensures { result ≡ is_itself function count }
+{
+    matches!(function, Function::Root) && count == 0
+}
+
+/// The number that an Extension or a Row carries.
+fn carried(kind: Kind) -> u8
+    ensures { result ≡ carried kind }
+{
+    match kind {
+        Kind::Extension(number) | Kind::Row(number) => number,
+        _ => 0,
+    }
+}

@@ -1,0 +1,35 @@
+ghost use Rattle.std.specs.Prelude.{◌≡◌, reverse};
+ghost use Rattle.std.specs.Option.{ok_or};
+ghost use Rattle.std.specs.Result.{result_map_both};
+ghost use Rattle.vocabulary.specs.declared.refusals.MemoryRefusal.TheVariants.{NoSuchNode};
+ghost use Rattle.meaning.specs.HostCode.{part};
+ghost use Rattle.model.specs.Stores.{node_among};
+
+use crate::memory::Memory;
+use meaning::texts::bytes_of;
+use vocabulary::nodes::Node;
+use vocabulary::refusals::MemoryRefusal;
+use vocabulary::values::{Span, Text};
+
+impl Memory {
+    /// The record of that number.
+    pub(crate) fn node(&self, number: u32) -> Result<&Node, MemoryRefusal>
+        ensures { result_map_both (λ x. x.now) (λ e. e) result
+            ≡ ok_or (node_among (reverse self.now.nodes.items) number) (NoSuchNode number) }
+    {
+        let at = number as usize;
+        if at < self.nodes.len() {
+            Ok(&self.nodes[at])
+        } else {
+            Err(MemoryRefusal::NoSuchNode(number))
+        }
+    }
+
+    /// The bytes of that part of the text.
+    pub(crate) fn text_at(&self, span: Span) -> &[u8]
+        ensures { result.now ≡ part self.now.text.items span }
+    {
+        let text = self.text.as_slice();
+        bytes_of(Text::Arena(span), text, text)
+    }
+}
