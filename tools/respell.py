@@ -28,6 +28,9 @@ SPECS = re.compile(r"(?<!\S)--[^\n]*")
 TICKS = re.compile(r"`[^`\n]+`")
 
 
+# Two words of one name in one crate: the bytes of a value, of Comparing, apart from the bytes of a text, of HostCode.
+VALUE_BYTES = re.compile(r"\buse Rattle\.meaning\.specs\.Comparing\.\{[^}]*\bbytes_of\b|^abbrev pub bytes_of : Value ", re.M)
+
 # An import: a path and the names in its braces.
 IMPORT = re.compile(r"\buse ([\w.'·-]+)\.\{([^}]*)\}")
 
@@ -103,6 +106,8 @@ def main():
         kit = of_the_kit(old, crates)
         made = of_a_function(path)
         new = turned(old, RUST if path.endswith(".rt") else SPECS, lambda w: w in kit or (made and w not in own))
+        if VALUE_BYTES.search(new):
+            new = re.sub(r"\bbytes_of\b", "value_bytes", new)
         if new != old:
             with open(path, "w", encoding="utf-8") as f:
                 f.write(new)

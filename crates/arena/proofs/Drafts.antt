@@ -16,7 +16,7 @@ use Rattle.vocabulary.specs.declared.types.DType.{DType}
 use Rattle.vocabulary.specs.declared.values.Span.{Span}
 use Rattle.vocabulary.specs.Nodes.{recorded}
 use Rattle.schemas.specs.declared.tables.Schemas.{Schemas}
-use Rattle.meaning.specs.Comparing.{bytes_of}
+use Rattle.meaning.specs.Comparing.{value_bytes}
 use Rattle.meaning.specs.Hosts.{Meaning}
 use Rattle.meaning.specs.Values.{Value, null, bool, signed, unsigned, text, ext, whole}
 use Rattle.model.specs.Making.{Plan, named, looked_up, check, types_of, deepest, total_size}
@@ -155,7 +155,7 @@ plan_is m ss h p w f head function eight = go (looked_up (store ss h) (named p.c
         (head_type m s.schemas p.head (types_of xs))
 
 -- a value and a function behind the text
-value_behind : (all bs : List ℕ) (v : Value) → bytes_of v ≡ bs → value_at (behind all bs) v ≡ placed_behind all v
+value_behind : (all bs : List ℕ) (v : Value) → value_bytes v ≡ bs → value_at (behind all bs) v ≡ placed_behind all v
 value_behind all bs null e = refl
 value_behind all bs (bool b) e = refl
 value_behind all bs (signed z) e = refl
@@ -166,7 +166,7 @@ value_behind all bs (whole s) e = refl
 
 function_behind : (all : List ℕ) (w : New) → function_at (behind all (new_bytes w)) w ≡ new_function all w
 function_behind all (root s) = refl
-function_behind all (literal t v) = ap (Literal t) (value_behind all (bytes_of v) v refl)
+function_behind all (literal t v) = ap (Literal t) (value_behind all (value_bytes v) v refl)
 function_behind all (get_item name) = refl
 function_behind all (cast t) = refl
 function_behind all (binary o) = refl

@@ -22,14 +22,14 @@ numeric_of (ext e z) = z
 numeric_of (whole s) = pos 0
 
 -- the bytes that a text is ordered by
-abbrev pub bytes_of : Value → List ℕ
-bytes_of null = []
-bytes_of (bool b) = []
-bytes_of (signed z) = []
-bytes_of (unsigned n) = []
-bytes_of (text bs) = bs
-bytes_of (ext e z) = []
-bytes_of (whole s) = []
+abbrev pub value_bytes : Value → List ℕ
+value_bytes null = []
+value_bytes (bool b) = []
+value_bytes (signed z) = []
+value_bytes (unsigned n) = []
+value_bytes (text bs) = bs
+value_bytes (ext e z) = []
+value_bytes (whole s) = []
 
 -- the order of texts: by the first byte that differs, a prefix smaller
 abbrev pub bytes_below : List ℕ → List ℕ → Bool
@@ -40,7 +40,7 @@ bytes_below (x ∷ xs) (y ∷ ys) = nat_lt x y || (x == y && bytes_below xs ys)
 
 -- the order of values of one kind: texts by their bytes, all others by a number
 unfoldable pub below : Value → Value → Bool
-below v w = int_lt (numeric_of v) (numeric_of w) || bytes_below (bytes_of v) (bytes_of w)
+below v w = int_lt (numeric_of v) (numeric_of w) || bytes_below (value_bytes v) (value_bytes w)
 
 -- whether a comparison holds of two values of one kind
 abbrev pub holds : CompareOperator → Value → Value → Bool

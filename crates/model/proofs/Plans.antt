@@ -17,7 +17,7 @@ use Rattle.meaning.specs.Lists.{of_none}
 use Rattle.meaning.specs.Trees.{Fn}
 use Rattle.meaning.specs.Typing.{fn_type}
 use Rattle.meaning.specs.Values.{Value, null, bool, signed, unsigned, text, ext, whole, fits}
-use Rattle.meaning.specs.Comparing.{bytes_of}
+use Rattle.meaning.specs.Comparing.{value_bytes}
 use Rattle.meaning.proofs.CaseSplits.{none_some, some_same, cond_some, false_true}
 use Rattle.model.specs.Stores.{Store}
 use Rattle.model.specs.Shapes.{over, head_of}
@@ -125,7 +125,7 @@ row_typed m ss u r ts t e =
 module _ (m : Meaning) (s : Store) where
   literal_read : (t : DType) (v : Value) (u : DType) (ts : List DType)
       → fn_type m s.schemas (Fn.literal t v) ts ≡ Some u
-      → read (s.text ++ bytes_of v) [] (placed_behind s.text v) ≡ v
+      → read (s.text ++ value_bytes v) [] (placed_behind s.text v) ≡ v
   literal_read t null u ts e = refl
   literal_read t (bool b) u ts e = refl
   literal_read t (signed z) u ts e = refl
@@ -134,7 +134,7 @@ module _ (m : Meaning) (s : Store) where
   literal_read t (ext k z) u ts e = refl
   literal_read t (whole r) u ts e = false_true (row_typed m s.schemas t r ts u e)
 
-  literal_ends : (v : Value) → EndsWithin (s.text ++ bytes_of v) (text_of_value (placed_behind s.text v))
+  literal_ends : (v : Value) → EndsWithin (s.text ++ value_bytes v) (text_of_value (placed_behind s.text v))
   literal_ends null = tt
   literal_ends (bool b) = tt
   literal_ends (signed z) = tt

@@ -9,7 +9,7 @@ use Rattle.vocabulary.specs.Nodes.{text_of, text_of_value}
 use Rattle.meaning.specs.HostCode.{read}
 use Rattle.meaning.specs.Trees.{Fn, Expr, depth, depths, size, sizes}
 use Rattle.meaning.specs.Values.{Value, null, bool, signed, unsigned, text, ext, whole}
-use Rattle.meaning.specs.Comparing.{bytes_of}
+use Rattle.meaning.specs.Comparing.{value_bytes}
 use Rattle.meaning.proofs.CaseSplits.{mapped_some}
 use Rattle.model.specs.Stores.{node_at}
 use Rattle.model.specs.Shapes.{Head, join, over, head_of, shaped, trees_by, shape_tree}
@@ -71,7 +71,7 @@ pub record HonestUnbound (p : Plan) (u : UnboundStore) : Type 0 where
   pub ends : EndsWithin (u.text ++ p.adds) (text_of p.function)
 
 -- a literal's value is read as it is held
-pub held_read : (all : List ℕ) (v : Value) → read (all ++ bytes_of v) [] (placed_behind all v) ≡ held v
+pub held_read : (all : List ℕ) (v : Value) → read (all ++ value_bytes v) [] (placed_behind all v) ≡ held v
 held_read all null = refl
 held_read all (bool b) = refl
 held_read all (signed z) = refl
@@ -80,7 +80,7 @@ held_read all (text bs) = ap text (part_behind all bs)
 held_read all (ext e z) = refl
 held_read all (whole s) = refl
 
-held_ends : (all : List ℕ) (v : Value) → EndsWithin (all ++ bytes_of v) (text_of_value (placed_behind all v))
+held_ends : (all : List ℕ) (v : Value) → EndsWithin (all ++ value_bytes v) (text_of_value (placed_behind all v))
 held_ends all null = tt
 held_ends all (bool b) = tt
 held_ends all (signed z) = tt

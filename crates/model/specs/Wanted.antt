@@ -11,7 +11,7 @@ use Rattle.vocabulary.specs.declared.values.Value.{Value as Placed}
 use Rattle.vocabulary.specs.declared.values.Value.TheVariants as placed
 use Rattle.vocabulary.specs.Operators.{family_of}
 use Rattle.meaning.specs.Values.{Value, null, bool, signed, unsigned, text, ext, whole}
-use Rattle.meaning.specs.Comparing.{bytes_of}
+use Rattle.meaning.specs.Comparing.{value_bytes}
 use Rattle.meaning.specs.Literals.{lit}
 use Rattle.meaning.specs.Trees.{Fn, Expr, node, nil, cons, binary as two_under, between_node}
 use Rattle.model.specs.Shapes.{Head, over, family_head, trees_by}
@@ -53,7 +53,7 @@ new_function all (host c) = Host c
 -- the bytes that are appended to the text: those of a literal's text or of a name
 abbrev pub new_bytes : New → List ℕ
 new_bytes (root s) = []
-new_bytes (literal t v) = bytes_of v
+new_bytes (literal t v) = value_bytes v
 new_bytes (get_item name) = name
 new_bytes (cast t) = []
 new_bytes (binary o) = []
