@@ -1,5 +1,7 @@
 -- A record that is drafted check by check is the one that its plan comes to.
-use Rattle.std.proofs.Common.{◌≡◌, ℕ, suc, ◌+◌, min, Bool, true, false, cond, ltb, leb, List, length, take, Some, None, Ok, Err, vec_items, vec_len, Option, Result, sym, refl, ap, ◌∙◌, add-one, arith, length-take}
+use Rattle.std.proofs.Common.{◌≡◌, ℕ, suc, ◌+◌, min, Bool, true, false, cond, ltb, leb, List, length, take, Some}
+use Rattle.std.proofs.Common.{None, Ok, Err, vec_items, vec_len, Option, Result, sym, refl, ap, ◌∙◌, add-one, arith}
+use Rattle.std.proofs.Common.{length-take}
 use Rattle.std.proofs.lemmas.List.{length-reverse}
 use Rattle.std.proofs.lemmas.Bool.{leb-true, leb-false, lt-ltb, le-ltb}
 use Rattle.std.specs.Option.{ok_or}
@@ -20,7 +22,8 @@ use Rattle.meaning.specs.Comparing.{value_bytes}
 use Rattle.meaning.specs.Hosts.{Meaning}
 use Rattle.meaning.specs.Values.{Value, null, bool, signed, unsigned, text, ext, whole}
 use Rattle.model.specs.Making.{Plan, named, looked_up, check, types_of, deepest, total_size}
-use Rattle.model.specs.Making.{over_children, bound, build, head_known, head_counts, head_type, schema_first, new_plan}
+use Rattle.model.specs.Making.{over_children, bound, build, head_known, head_counts, head_type, schema_first}
+use Rattle.model.specs.Making.{new_plan}
 use Rattle.model.specs.Shapes.{Head}
 use Rattle.model.specs.Stores.{Store}
 use Rattle.model.specs.Wanted.{New, root, literal, get_item, cast, binary, between, host}

@@ -1,5 +1,6 @@
 -- Rebuilding a node, by a draft over the other children.
-use Rattle.std.proofs.Common.{◌≡◌, ℕ, zero, suc, ◌+◌, ◌<◌, Bool, true, false, cond, List, [], reverse, length, get_or, Some, Ok, vec_items, vec_len, Option, Result, sym, refl, ap, ◌∙◌, subst, arith}
+use Rattle.std.proofs.Common.{◌≡◌, ℕ, zero, suc, ◌+◌, ◌<◌, Bool, true, false, cond, List, [], reverse, length, get_or}
+use Rattle.std.proofs.Common.{Some, Ok, vec_items, vec_len, Option, Result, sym, refl, ap, ◌∙◌, subst, arith}
 use Rattle.std.proofs.lemmas.List.{length-reverse}
 use Rattle.std.proofs.lemmas.Bool.{ne_eqb}
 use Rattle.vocabulary.specs.declared.nodes.Function.{Function}

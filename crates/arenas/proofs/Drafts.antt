@@ -1,5 +1,6 @@
 -- What is drafted check by check is what its plan comes to.
-use Rattle.std.proofs.Common.{◌≡◌, ℕ, suc, ◌+◌, min, Bool, true, false, cond, ltb, leb, List, [], ◌∷◌, length, take, Ok, Err, vec_items, vec_len, Result, sym, refl, ap, ◌∙◌, add-one, arith, length-take}
+use Rattle.std.proofs.Common.{◌≡◌, ℕ, suc, ◌+◌, min, Bool, true, false, cond, ltb, leb, List, [], ◌∷◌, length, take}
+use Rattle.std.proofs.Common.{Ok, Err, vec_items, vec_len, Result, sym, refl, ap, ◌∙◌, add-one, arith, length-take}
 use Rattle.std.proofs.lemmas.List.{length-reverse}
 use Rattle.vocabulary.specs.declared.nodes.Function.{Function}
 use Rattle.vocabulary.specs.declared.nodes.Node.{Node}

@@ -1,5 +1,6 @@
 -- What was there before stays in front while more is made, and is what is left when that is taken back.
-use Rattle.std.proofs.Common.{◌≡◌, ℕ, ◌≤◌, true, List, ◌++◌, reverse, length, take, vec_items, vec_len, sym, refl, ap, ◌∙◌, subst, arith, length-append, length-take}
+use Rattle.std.proofs.Common.{◌≡◌, ℕ, ◌≤◌, true, List, ◌++◌, reverse, length, take, vec_items, vec_len, sym, refl, ap}
+use Rattle.std.proofs.Common.{◌∙◌, subst, arith, length-append, length-take}
 use Rattle.std.proofs.lemmas.List.{reverse-append, reverse-reverse, length-reverse, take-append-le, take_all}
 use Rattle.vocabulary.specs.declared.nodes.Node.{Node}
 use Rattle.meaning.specs.Columns.{Schemas}

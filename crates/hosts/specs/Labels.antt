@@ -1,5 +1,6 @@
 -- The host Labels: the length of a text, of code 0, and whether a text begins with another, of code 1.
-use Rattle.std.specs.Prelude.{◌≡◌, ℕ, Bool, true, false, cond, ◌&&◌, ◌||◌, List, [], ◌∷◌, ◌++◌, length, is_some, Some, None, Decides, Option, ◌==◌}
+use Rattle.std.specs.Prelude.{◌≡◌, ℕ, Bool, true, false, cond, ◌&&◌, ◌||◌, List, [], ◌∷◌, ◌++◌, length, is_some, Some}
+use Rattle.std.specs.Prelude.{None, Decides, Option, ◌==◌}
 use Rattle.vocabulary.specs.declared.types.DType.{DType}
 use Rattle.vocabulary.specs.declared.types.Kind.TheVariants as kind
 use Rattle.vocabulary.specs.Types.{same_kind, type_of}

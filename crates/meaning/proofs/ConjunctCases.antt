@@ -61,7 +61,7 @@ none_replaced g (logic And a b) h = simp (none_replaced g a h.0, none_replaced g
 none_replaced g (logic Or a b) h = h
 none_replaced g (node f es) h = h
 
--- what holds of an answer in place of its conjunct, and goes up through And, holds of what replace-first gives
+-- what holds of an answer in place of its conjunct, and goes up through And, holds of what replace_first gives
 module _ (g : Expr → Option Expr) (Q : Expr → Expr → Type 0)
     (in_left : (a b c : Expr) → replace_first g a ≡ Some c → Q a c → Q (logic And a b) (logic And c b))
     (in_right : (a b c : Expr) → replace_first g a ≡ None → replace_first g b ≡ Some c → Q b c

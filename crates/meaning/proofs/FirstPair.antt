@@ -1,5 +1,6 @@
 -- A merge takes the first pair, read off the lists of conjuncts.
-use Rattle.std.proofs.Common.{◌≡◌, List, [], ◌∷◌, ◌++◌, Some, None, Option, sym, refl, ap, ◌∙◌, subst, append_assoc, append-nil}
+use Rattle.std.proofs.Common.{◌≡◌, List, [], ◌∷◌, ◌++◌, Some, None, Option, sym, refl, ap, ◌∙◌, subst, append_assoc}
+use Rattle.std.proofs.Common.{append-nil}
 use Rattle.vocabulary.specs.declared.operators.Connective.TheVariants.{And, Or}
 use Rattle.meaning.specs.Columns.{Schemas}
 use Rattle.meaning.specs.Conjuncts.{conjuncts, replace_first, EachConjunct}

@@ -1,5 +1,6 @@
 -- An expression that binds never faults as malformed.
-use Rattle.std.proofs.Common.{◌≡◌, ℕ, zero, suc, ◌<◌, Bool, true, false, cond, ◌||◌, List, [], ◌∷◌, length, Some, sym, refl, ap, ◌∙◌, arith}
+use Rattle.std.proofs.Common.{◌≡◌, ℕ, zero, suc, ◌<◌, Bool, true, false, cond, ◌||◌, List, [], ◌∷◌, length, Some, sym}
+use Rattle.std.proofs.Common.{refl, ap, ◌∙◌, arith}
 use Rattle.vocabulary.specs.declared.operators.Arithmetic.{Arithmetic}
 use Rattle.vocabulary.specs.declared.operators.BetweenOptions.{BetweenOptions}
 use Rattle.vocabulary.specs.declared.operators.CompareOperator.{CompareOperator}

@@ -1,5 +1,6 @@
 -- What a host has to show: its values fit, and its rules keep type and value.
-use Rattle.std.specs.Prelude.{◌≡◌, ℕ, ◌<◌, Bool, true, false, cond, not, ◌&&◌, ◌||◌, List, [], ◌∷◌, length, Some, None, Option, ◌==◌}
+use Rattle.std.specs.Prelude.{◌≡◌, ℕ, ◌<◌, Bool, true, false, cond, not, ◌&&◌, ◌||◌, List, [], ◌∷◌, length, Some}
+use Rattle.std.specs.Prelude.{None, Option, ◌==◌}
 use Rattle.vocabulary.specs.declared.types.DType.{DType}
 use Rattle.vocabulary.specs.Types.{plain_kind}
 use Rattle.meaning.specs.Outcomes.{value, settled, and_then}

@@ -1,5 +1,6 @@
 -- A granted binding: the tree against the schema, one node for each place, in a store that stays sound.
-use Rattle.std.proofs.Common.{◌≡◌, ℕ, suc, ◌+◌, ◌<◌, ◌≤◌, Bool, true, false, cond, eqb, List, [], ◌∷◌, map, length, Ok, Result, sym, refl, ap, ◌∙◌, subst, arith, length-take}
+use Rattle.std.proofs.Common.{◌≡◌, ℕ, suc, ◌+◌, ◌<◌, ◌≤◌, Bool, true, false, cond, eqb, List, [], ◌∷◌, map, length}
+use Rattle.std.proofs.Common.{Ok, Result, sym, refl, ap, ◌∙◌, subst, arith, length-take}
 use lib.ListN.{length-map}
 use Rattle.std.proofs.lemmas.Bool.{eqb-true}
 use Rattle.vocabulary.specs.declared.refusals.Refusal.{Refusal}

@@ -1,5 +1,6 @@
 -- What is granted is the tree asked for, under the next number.
-use Rattle.std.proofs.Common.{◌≡◌, ℕ, ◌≤◌, min, true, List, [], ◌∷◌, length, get_or, take, Ok, Err, Result, sym, refl, ap, ◌∙◌, arith}
+use Rattle.std.proofs.Common.{◌≡◌, ℕ, ◌≤◌, min, true, List, [], ◌∷◌, length, get_or, take, Ok, Err, Result, sym, refl}
+use Rattle.std.proofs.Common.{ap, ◌∙◌, arith}
 use Rattle.std.proofs.lemmas.Bool.{eqb-true}
 use Rattle.vocabulary.specs.declared.nodes.Node.{Node}
 use Rattle.vocabulary.specs.declared.operators.Family.{Family}
@@ -10,7 +11,8 @@ use Rattle.meaning.specs.Hosts.{Meaning}
 use Rattle.meaning.specs.Trees.{Fn, Expr, node, of_family}
 use Rattle.model.specs.Stores.{grown}
 use Rattle.model.specs.Shapes.{join, over, family_head, shaped, trees_by, shape_tree, tree}
-use Rattle.model.specs.Wanted.{New, root, literal, get_item, cast, binary, between, host, new_bytes, new_head, new_tree}
+use Rattle.model.specs.Wanted.{New, root, literal, get_item, cast, binary, between, host, new_bytes, new_head}
+use Rattle.model.specs.Wanted.{new_tree}
 use Rattle.model.specs.Making.{named, head_counts, build, entered, schema_first, new_plan}
 use Rattle.model.specs.LawsOfMaking.{Made, MadeAsAsked}
 use Rattle.model.proofs.Children.{err_ok, ok_same}

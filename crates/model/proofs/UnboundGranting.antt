@@ -1,5 +1,6 @@
 -- What is granted in an unbound arena is the tree asked for, or the old one over other children.
-use Rattle.std.proofs.Common.{◌≡◌, ℕ, zero, suc, true, List, [], ◌++◌, length, take, Some, None, Ok, Err, Option, Result, sym, refl, ap, ◌∙◌, inl, inr, append-nil}
+use Rattle.std.proofs.Common.{◌≡◌, ℕ, zero, suc, true, List, [], ◌++◌, length, take, Some, None, Ok, Err, Option}
+use Rattle.std.proofs.Common.{Result, sym, refl, ap, ◌∙◌, inl, inr, append-nil}
 use Rattle.std.proofs.lemmas.Bool.{eqb-true}
 use Rattle.vocabulary.specs.declared.nodes.Function.{Function}
 use Rattle.vocabulary.specs.declared.nodes.Function.TheVariants.{Root, Literal, GetItem, Cast, Binary, Between, Host}
@@ -11,7 +12,8 @@ use Rattle.model.specs.Wanted.{new_bytes}
 use Rattle.model.specs.Making.{named, head_counts, new_plan}
 use Rattle.model.specs.Rebuilding.{old_plan}
 use Rattle.model.specs.LawsOfMaking.{with_operands}
-use Rattle.model.specs.Unbound.{UnboundNode, UnboundStore, unbound_at, unbound_kids, unbound_grown, rows, seen, untyped}
+use Rattle.model.specs.Unbound.{UnboundNode, UnboundStore, unbound_at, unbound_kids, unbound_grown, rows, seen}
+use Rattle.model.specs.Unbound.{untyped}
 use Rattle.model.specs.Unbound.{against, tree_for}
 use Rattle.model.specs.UnboundMaking.{any_host, build_unbound, entered_unbound, itself_or_new, rebuilt_unbound}
 use Rattle.model.specs.UnboundSoundness.{SoundUnbound}

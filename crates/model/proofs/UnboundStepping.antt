@@ -1,5 +1,6 @@
 -- Steps keep an unbound arena sound, and leave its older nodes as they were.
-use Rattle.std.proofs.Common.{◌≡◌, ℕ, zero, suc, List, [], ◌∷◌, length, Some, None, Ok, Err, Option, Result, sym, refl, ◌∙◌, subst, arith}
+use Rattle.std.proofs.Common.{◌≡◌, ℕ, zero, suc, List, [], ◌∷◌, length, Some, None, Ok, Err, Option, Result, sym}
+use Rattle.std.proofs.Common.{refl, ◌∙◌, subst, arith}
 use Rattle.vocabulary.specs.declared.nodes.Function.{Function}
 use Rattle.vocabulary.specs.declared.nodes.Function.TheVariants.{Root, Literal, GetItem, Cast, Binary, Between, Host}
 use Rattle.vocabulary.specs.declared.nodes.Node.{Node}

@@ -1,6 +1,7 @@
 ghost use Rattle.std.specs.Prelude.{◌≡◌, codes};
 ghost use Rattle.std.specs.Option.{option_map};
-ghost use Rattle.notation.specs.TypeNames.{without_ending, without_beginning, byte_named, number_after, numbered_kind};
+ghost use Rattle.notation.specs.TypeNames.{without_ending, without_beginning, byte_named, number_after};
+ghost use Rattle.notation.specs.TypeNames.{numbered_kind};
 ghost use Rattle.notation.specs.TypeNames.{kind_named, type_named};
 
 use crate::naturals::read_natural;

@@ -1,5 +1,6 @@
 -- Looking a column up, one step of the loop at a time.
-use Rattle.std.proofs.Common.{◌≡◌, ℕ, ◌+◌, ◌<◌, ◌≤◌, cond, List, map, length, get_or, take, drop, Some, None, sym, ap, ◌∙◌, arith, length-take}
+use Rattle.std.proofs.Common.{◌≡◌, ℕ, ◌+◌, ◌<◌, ◌≤◌, cond, List, map, length, get_or, take, drop, Some, None, sym, ap}
+use Rattle.std.proofs.Common.{◌∙◌, arith, length-take}
 use Rattle.std.specs.Str.{bytes_eq}
 use Rattle.std.proofs.lemmas.List.{at_drop_more, at_drop_all, get_or-take}
 use Rattle.schemas.specs.declared.column.Column.{Column}

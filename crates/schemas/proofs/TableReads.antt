@@ -1,5 +1,6 @@
 -- Reading and writing one schema of the table.
-use Rattle.std.proofs.Common.{◌≡◌, ℕ, ◌<◌, true, false, List, [], ◌∷◌, ◌++◌, map, length, get_or, set, Ok, Err, Result, sym, ap, ◌∙◌, arith}
+use Rattle.std.proofs.Common.{◌≡◌, ℕ, ◌<◌, true, false, List, [], ◌∷◌, ◌++◌, map, length, get_or, set, Ok, Err}
+use Rattle.std.proofs.Common.{Result, sym, ap, ◌∙◌, arith}
 use Rattle.std.proofs.lemmas.List.{map-set, get_or-map, set-get_or}
 use Rattle.schemas.specs.declared.tables.Schema.{Schema}
 use Rattle.std.proofs.lemmas.Bool.Decides.{nat_tests}

@@ -1,5 +1,6 @@
 -- The eight schemas: which numbers there are, looking up, adding.
-use Rattle.std.specs.Prelude.{◌≡◌, ℕ, cond, List, [], ◌∷◌, ◌++◌, length, Some, Ok, Err, Option, Result, nat_lt, slice_index_or, slice_set}
+use Rattle.std.specs.Prelude.{◌≡◌, ℕ, cond, List, [], ◌∷◌, ◌++◌, length, Some, Ok, Err, Option, Result, nat_lt}
+use Rattle.std.specs.Prelude.{slice_index_or, slice_set}
 use Rattle.vocabulary.specs.declared.refusals.MemoryRefusal.{MemoryRefusal}
 use Rattle.vocabulary.specs.declared.refusals.MemoryRefusal.TheVariants.{NoSuchSchema}
 use Rattle.vocabulary.specs.declared.refusals.BindingRefusal.TheVariants.{BadColumn}

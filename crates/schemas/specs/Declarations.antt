@@ -1,5 +1,6 @@
 -- Which columns a schema takes.
-use Rattle.std.specs.Prelude.{◌≡◌, ℕ, ◌<◌, ◌≤◌, Bool, true, cond, not, ◌&&◌, List, [], ◌∷◌, ◌++◌, length, get_or, is_some, Some, nat_le, nat_lt}
+use Rattle.std.specs.Prelude.{◌≡◌, ℕ, ◌<◌, ◌≤◌, Bool, true, cond, not, ◌&&◌, List, [], ◌∷◌, ◌++◌, length, get_or}
+use Rattle.std.specs.Prelude.{is_some, Some, nat_le, nat_lt}
 use Rattle.vocabulary.specs.Types.{is_plain}
 use Rattle.schemas.specs.Fields.{Field, found}
 

@@ -1,5 +1,6 @@
 -- The type of a node that is asked for: codes, counts and types.
-use Rattle.std.specs.Prelude.{ℕ, Bool, true, false, cond, ◌&&◌, List, Some, None, Ok, Err, Option, Result, ◌==◌, nat_le}
+use Rattle.std.specs.Prelude.{ℕ, Bool, true, false, cond, ◌&&◌, List, Some, None, Ok, Err, Option, Result, ◌==◌}
+use Rattle.std.specs.Prelude.{nat_le}
 use Rattle.std.specs.Option.{option_map, ok_or}
 use Rattle.vocabulary.specs.declared.operators.Family.{Family}
 use Rattle.vocabulary.specs.declared.operators.Family.TheVariants.{Compare, Connect, Compute}

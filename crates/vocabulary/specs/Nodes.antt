@@ -1,5 +1,6 @@
 -- The record of a node.
-use Rattle.std.specs.Prelude.{ℕ, min, cond, ◌&&◌, List, ◌++◌, take, drop, replicate, Some, None, Option, nat_lt, slice_index}
+use Rattle.std.specs.Prelude.{ℕ, min, cond, ◌&&◌, List, ◌++◌, take, drop, replicate, Some, None, Option, nat_lt}
+use Rattle.std.specs.Prelude.{slice_index}
 use Rattle.vocabulary.specs.declared.types.DType.{DType}
 use Rattle.vocabulary.specs.declared.values.Span.{Span}
 use Rattle.vocabulary.specs.declared.values.Text.{Text}
