@@ -1,14 +1,15 @@
 -- Records that are entered stand, and those before them still do.
 use Rattle.std.proofs.Common.{◌≡◌, ℕ, suc, ◌+◌, ◌<◌, ◌≤◌, min, Bool, true, false, cond, ◌&&◌, eqb, ltb, leb, List, []}
 use Rattle.std.proofs.Common.{◌∷◌, ◌++◌, reverse, length, Some, None, Ok, Err, vec_items, vec_len, Option, Result}
-use Rattle.std.proofs.Common.{sym, refl, ap, ◌∙◌, subst, arith}
-use Rattle.std.proofs.lemmas.List.{reverse-append}
+use Rattle.std.proofs.Common.{sym, refl, ap, ◌∙◌, subst, arith, take, drop, replicate, length-append, length-drop}
+use Rattle.std.proofs.Common.{length-take}
+use Rattle.std.proofs.lemmas.List.{reverse-append, take_at, length-take-le}
 use Rattle.std.proofs.lemmas.Bool.{and_parts, and_from, leb-true, ltb-true, le-leb, eq-eqb, eqb-true}
 use Rattle.vocabulary.specs.declared.nodes.Node.{Node}
 use Rattle.vocabulary.specs.declared.refusals.BindingRefusal.{BindingRefusal}
 use Rattle.vocabulary.specs.declared.types.DType.{DType}
 use Rattle.vocabulary.specs.declared.values.Span.{Span}
-use Rattle.vocabulary.specs.Nodes.{text_of}
+use Rattle.vocabulary.specs.Nodes.{padded, text_of}
 use Rattle.meaning.specs.Columns.{Schemas}
 use Rattle.meaning.proofs.CaseSplits.{none_some, some_same}
 use Rattle.model.specs.Making.{Plan, named, looked_up, with_record, types_of, deepest, total_size, new_record}
@@ -16,7 +17,6 @@ use Rattle.model.specs.Shapes.{kids}
 use Rattle.model.specs.Soundness.{EndsWithin}
 use Rattle.model.specs.Stores.{Store, node_among, grown}
 use Rattle.model.proofs.Children.{err_ok, ok_same}
-use Rattle.model.proofs.Growing.{padded_named, padded_eight}
 use Rattle.model.proofs.Plans.{checked}
 use Rattle.arena.specs.declared.memory.Memory.{Memory as Held}
 use Rattle.arena.specs.Building.{sized_as, typed_over, build_by}
@@ -153,18 +153,27 @@ built types p s x e = over (looked_up s (named p.children p.count)) refl e
     over (Err k) a h = err_ok _ x h
     over (Ok xs) a h = typed xs a (types (types_of xs)) h
 
+-- the children that are recorded, eight with zeros behind them
+module _ (cs : List ℕ) (n : ℕ) (enough : min n 8 ≤ length cs) where
+  padded_named : take (min n 8) (padded cs (min n 8)) ≡ named cs n
+  padded_named =
+      take_at (take (min n 8) cs) (drop (min n 8) (replicate 8 0)) (min n 8) (length-take-le (min n 8) cs enough)
+
+  padded_eight : length (padded cs (min n 8)) ≡ 8
+  padded_eight = simp (length-append, length-take, length-drop) (omega arith)
+
 -- a record that a plan comes to stands
-built_stands : (p : Plan) (s : Store) (x : Node) → Built p s x → length p.children ≡ 8
+built_stands : (p : Plan) (s : Store) (x : Node) → Built p s x → min p.count 8 ≤ length p.children
     → (len : ℕ) → ends_within len (text_of p.function) ≡ true → stands len s.nodes x ≡ true
-built_stands p s x b eight len ends =
+built_stands p s x b enough len ends =
     let n = p.count in
     let cs = p.children in
     let y = new_record p b.type b.records in
     let found : found_among s.nodes (kids y) ≡ Ok b.records =
-    ap (found_among s.nodes) (padded_named cs n eight) ∙ sym (looked_found s (named cs n)) ∙ b.there in
+    ap (found_among s.nodes) (padded_named cs n enough) ∙ sym (looked_found s (named cs n)) ∙ b.there in
     subst (λ (z : Node). stands len s.nodes z ≡ true) (sym b.is)
     (stands_by len s.nodes y (record {
-      few = and_from _ _ (le-leb (min n 8) 8 (omega arith)) (eq-eqb _ 8 (padded_eight cs n eight));
+      few = and_from _ _ (le-leb (min n 8) 8 (omega arith)) (eq-eqb _ 8 (padded_eight cs n enough));
       measured =
           ap (measures y) found
           ∙ and_from _ _
@@ -182,15 +191,15 @@ pub record FitsIn (h : Held) (x : Node) (more : ℕ) : Type 0 where
 
 -- what a plan comes to fits
 pub build_fits : (types : List DType → Result DType BindingRefusal) (ss : Schemas) (h : Held) (p : Plan) (x : Node)
-    → length p.children ≡ 8
+    → min p.count 8 ≤ length p.children
     → ends_within (vec_len h.text + length p.adds) (text_of p.function) ≡ true
     → build_by types p (store ss h) ≡ Ok x → FitsIn h x (length p.adds)
-build_fits types ss h p x eight ends e =
+build_fits types ss h p x enough ends e =
     let b = built types p (store ss h) x e in
     record {
       room = omega (arith, b.room, nodes_length ss h);
       text_room = omega (arith, b.text_room, h.text.ok.0);
-      stands_there = built_stands p (store ss h) x b eight (vec_len h.text + length p.adds) ends;
+      stands_there = built_stands p (store ss h) x b enough (vec_len h.text + length p.adds) ends;
     }
 
 pub ends_inside : (all : List ℕ) (o : Option Span) → EndsWithin all o → ends_within (length all) o ≡ true

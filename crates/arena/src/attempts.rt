@@ -1,4 +1,4 @@
-ghost use Rattle.std.specs.Prelude.{◌≡◌, vec_len};
+ghost use Rattle.std.specs.Prelude.{◌≡◌, length, vec_len};
 ghost use Rattle.model.specs.Making.{make};
 ghost use Rattle.model.specs.Rebuilding.{with_children};
 ghost use Rattle.typing.specs.Asked.{new_of};
@@ -30,49 +30,39 @@ impl<'a, H: Host> Attempt<'a, H> {
     }
 
     /// Makes a node on trial.
-    pub fn try_new(
-        &mut self,
-        function: NewFunction<'_>,
-        children: [u32; 8],
-        count: u8,
-    ) -> Result<u32, Refusal>
+    pub fn try_new(&mut self, function: NewFunction<'_>, children: &[u32]) -> Result<u32, Refusal>
         ensures answer { result ≡ (make (H.Host.meaning self.old.arena.now.binder.host)
-            (new_of function.entry) children count
+            (new_of function.entry) children.now (length children.now)
             (opened self.old.arena.now.binder.schemas self.old.arena.now.memory)).0 }
         ensures after { opened self.new.arena.now.binder.schemas
             self.new.arena.now.memory
             ≡ (make (H.Host.meaning self.old.arena.now.binder.host) (new_of function.entry)
-            children count
+            children.now (length children.now)
             (opened self.old.arena.now.binder.schemas self.old.arena.now.memory)).1 }
         ensures binder { self.new.arena.now.binder ≡ self.old.arena.now.binder }
         ensures same { self.new.arena.ghost_name ≡ self.old.arena.ghost_name }
         ensures nodes { self.new.nodes ≡ self.old.nodes }
         ensures text { self.new.text ≡ self.old.text }
     {
-        self.make(function, children, count)
+        self.make(function, children)
     }
 
     /// Makes a node on trial, of the function of another over other children.
-    pub fn with_children(
-        &mut self,
-        node: u32,
-        children: [u32; 8],
-        count: u8,
-    ) -> Result<u32, Refusal>
+    pub fn with_children(&mut self, node: u32, children: &[u32]) -> Result<u32, Refusal>
         ensures answer { result ≡ (with_children (H.Host.meaning self.old.arena.now.binder.host)
-            node children count
+            node children.now (length children.now)
             (opened self.old.arena.now.binder.schemas self.old.arena.now.memory)).0 }
         ensures after { opened self.new.arena.now.binder.schemas
             self.new.arena.now.memory
             ≡ (with_children (H.Host.meaning self.old.arena.now.binder.host) node
-            children count
+            children.now (length children.now)
             (opened self.old.arena.now.binder.schemas self.old.arena.now.memory)).1 }
         ensures binder { self.new.arena.now.binder ≡ self.old.arena.now.binder }
         ensures same { self.new.arena.ghost_name ≡ self.old.arena.ghost_name }
         ensures nodes { self.new.nodes ≡ self.old.nodes }
         ensures text { self.new.text ≡ self.old.text }
     {
-        self.rebuild(node, children, count)
+        self.rebuild(node, children)
     }
 
     /// Leaves what was made.
@@ -110,43 +100,38 @@ impl<'a, H: Host> Attempt<'a, H> {
     }
 
     /// Making: what was there before stays in front.
-    fn make(
-        &mut self,
-        function: NewFunction<'_>,
-        children: [u32; 8],
-        count: u8,
-    ) -> Result<u32, Refusal>
+    fn make(&mut self, function: NewFunction<'_>, children: &[u32]) -> Result<u32, Refusal>
         ensures answer { result ≡ (make (H.Host.meaning self.old.arena.now.binder.host)
-            (new_of function.entry) children count
+            (new_of function.entry) children.now (length children.now)
             (opened self.old.arena.now.binder.schemas self.old.arena.now.memory)).0 }
         ensures after { opened self.new.arena.now.binder.schemas
             self.new.arena.now.memory
             ≡ (make (H.Host.meaning self.old.arena.now.binder.host) (new_of function.entry)
-            children count
+            children.now (length children.now)
             (opened self.old.arena.now.binder.schemas self.old.arena.now.memory)).1 }
         ensures binder { self.new.arena.now.binder ≡ self.old.arena.now.binder }
         ensures same { self.new.arena.ghost_name ≡ self.old.arena.ghost_name }
         ensures nodes { self.new.nodes ≡ self.old.nodes }
         ensures text { self.new.text ≡ self.old.text }
     {
-        self.arena.try_new(function, children, count)
+        self.arena.try_new(function, children)
     }
 
     /// Rebuilding: what was there before stays in front.
-    fn rebuild(&mut self, node: u32, children: [u32; 8], count: u8) -> Result<u32, Refusal>
+    fn rebuild(&mut self, node: u32, children: &[u32]) -> Result<u32, Refusal>
         ensures answer { result ≡ (with_children (H.Host.meaning self.old.arena.now.binder.host)
-            node children count
+            node children.now (length children.now)
             (opened self.old.arena.now.binder.schemas self.old.arena.now.memory)).0 }
         ensures after { opened self.new.arena.now.binder.schemas
             self.new.arena.now.memory
             ≡ (with_children (H.Host.meaning self.old.arena.now.binder.host) node
-            children count
+            children.now (length children.now)
             (opened self.old.arena.now.binder.schemas self.old.arena.now.memory)).1 }
         ensures binder { self.new.arena.now.binder ≡ self.old.arena.now.binder }
         ensures same { self.new.arena.ghost_name ≡ self.old.arena.ghost_name }
         ensures nodes { self.new.nodes ≡ self.old.nodes }
         ensures text { self.new.text ≡ self.old.text }
     {
-        self.arena.with_children(node, children, count)
+        self.arena.with_children(node, children)
     }
 }

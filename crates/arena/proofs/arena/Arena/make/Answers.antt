@@ -1,4 +1,4 @@
-use Rattle.std.proofs.Common.{ℕ, Result, refl, ap, ◌∙◌}
+use Rattle.std.proofs.Common.{ℕ, length, Result, refl, ap, ◌∙◌}
 use Rattle.vocabulary.specs.declared.refusals.Refusal.{Refusal}
 use Rattle.schemas.specs.Tables.{all_fields}
 use Rattle.model.specs.Stores.{Store}
@@ -12,7 +12,7 @@ returns g c =
     let m = g.H.Host.meaning c.args.self.now.binder.host in
     let ss = c.args.self.now.binder.schemas in
     let made =
-    makes_new m (new_of c.args.function) c.args.children c.args.count (opened ss c.args.self.now.memory)
+    makes_new m (new_of c.args.function) c.args.children.now (length c.args.children.now) (opened ss c.args.self.now.memory)
     c.in_ok-check_schema.ensures
     in
     record {

@@ -1,4 +1,4 @@
-use Rattle.std.proofs.Common.{ℕ, Result, refl, ap, ◌∙◌}
+use Rattle.std.proofs.Common.{ℕ, length, Result, refl, ap, ◌∙◌}
 use Rattle.vocabulary.specs.declared.refusals.Refusal.{Refusal}
 use Rattle.schemas.specs.Tables.{all_fields}
 use Rattle.model.specs.Stores.{Store}
@@ -11,7 +11,7 @@ returns g c =
     let m = g.H.Host.meaning c.args.self.now.binder.host in
     let ss = c.args.self.now.binder.schemas in
     let anew =
-    rebuilds_bound m c.args.node c.args.children c.args.count (opened ss c.args.self.now.memory)
+    rebuilds_bound m c.args.node c.args.children.now (length c.args.children.now) (opened ss c.args.self.now.memory)
     in
     record {
       answer = c.rebuild.ensures.answer (all_fields ss) ∙ ap (λ (z : Result ℕ Refusal × Store). z.0) anew;

@@ -1,4 +1,4 @@
-use Rattle.std.proofs.Common.{[], ◌∷◌, sym, subst}
+use Rattle.std.proofs.Common.{[], ◌∷◌, length, sym, subst}
 use Rattle.schemas.specs.Tables.{all_fields}
 use Rattle.model.specs.LawsOfMaking.{Grows}
 use Rattle.model.specs.Steps.{makes}
@@ -17,7 +17,7 @@ invariant_of-self g c =
     let s = opened a.arena.now.binder.schemas a.arena.now.memory in
     let grows =
     subst (λ (z : Store). Grows s z) (sym c.try_new.ensures.after)
-    (steps_only_add m s (makes (new_of c.args.function) c.args.children c.args.count ∷ []))
+    (steps_only_add m s (makes (new_of c.args.function) c.args.children.now (length c.args.children.now) ∷ []))
     in
     let marked =
     still_marked (all_fields a.arena.now.binder.schemas) (all_fields later.binder.schemas)

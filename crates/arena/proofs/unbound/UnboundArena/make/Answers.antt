@@ -1,4 +1,4 @@
-use Rattle.std.proofs.Common.{ℕ, [], Result, sym, refl, ap, ◌∙◌, subst}
+use Rattle.std.proofs.Common.{ℕ, [], length, Result, sym, refl, ap, ◌∙◌, subst}
 use Rattle.vocabulary.specs.declared.refusals.Refusal.{Refusal}
 use Rattle.model.specs.BindingTrees.{plan_at}
 use Rattle.model.specs.Unbound.{UnboundStore}
@@ -16,7 +16,7 @@ invariant_of-self c =
     record {
       loose =
           subst Loose (sym (c.make.ensures.after []))
-          (stays_loose 65535 w (plan_at 65535 w c.args.children c.args.count s) (new_bytes w) s
+          (stays_loose 65535 w (plan_at 65535 w c.args.children.now (length c.args.children.now) s) (new_bytes w) s
           c.args.self.now.loose);
     }
 
@@ -24,7 +24,7 @@ pub returns : goal.returns
 returns c =
     let s = store [] c.args.self.now.memory in
     let made =
-    makes_loose (new_of c.args.function) c.args.children c.args.count s refl c.args.self.now.loose
+    makes_loose (new_of c.args.function) c.args.children.now (length c.args.children.now) s refl c.args.self.now.loose
     in
     record {
       answer = c.make.ensures.answer [] ∙ ap (λ (z : Result ℕ Refusal × UnboundStore). z.0) made;

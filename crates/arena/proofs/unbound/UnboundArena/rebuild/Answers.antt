@@ -1,4 +1,4 @@
-use Rattle.std.proofs.Common.{ℕ, [], Result, sym, refl, ap, ◌∙◌, subst}
+use Rattle.std.proofs.Common.{ℕ, [], length, Result, sym, refl, ap, ◌∙◌, subst}
 use Rattle.vocabulary.specs.declared.refusals.Refusal.{Refusal}
 use Rattle.model.specs.Unbound.{UnboundStore}
 use Rattle.arena.specs.Loose.{loosened}
@@ -12,13 +12,13 @@ invariant_of-self c =
     record {
       loose =
           subst Loose (sym (c.rebuild.ensures.after []))
-          (rebuild_loose c.args.node c.args.children c.args.count s c.args.self.now.loose);
+          (rebuild_loose c.args.node c.args.children.now (length c.args.children.now) s c.args.self.now.loose);
     }
 
 pub returns : goal.returns
 returns c =
     let s = store [] c.args.self.now.memory in
-    let anew = rebuilds_loose c.args.node c.args.children c.args.count s refl c.args.self.now.loose in
+    let anew = rebuilds_loose c.args.node c.args.children.now (length c.args.children.now) s refl c.args.self.now.loose in
     record {
       answer = c.rebuild.ensures.answer [] ∙ ap (λ (z : Result ℕ Refusal × UnboundStore). z.0) anew;
       after =
