@@ -3,7 +3,6 @@ pub mod Building
 pub mod Drafting
 pub mod Loose
 pub mod Opened
-pub mod OpenedUnbound
 pub mod Placing
 pub mod Reading
 pub mod Rebuilding
@@ -11,3 +10,4 @@ pub mod Reserving
 pub mod Standing
 pub mod Surveying
 pub mod Trials
+pub mod UnboundModel

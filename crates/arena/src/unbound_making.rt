@@ -2,7 +2,6 @@ ghost use Rattle.std.specs.Prelude.{◌≡◌, length};
 ghost use Rattle.model.specs.Unbound.{empty_unbound};
 ghost use Rattle.model.specs.UnboundMaking.{make_unbound, unbound_with_children};
 ghost use Rattle.typing.specs.Asked.{new_of};
-ghost use Rattle.arena.specs.OpenedUnbound.{loose};
 
 use crate::memory::Memory;
 use crate::unbound::UnboundArena;
@@ -14,7 +13,7 @@ use vocabulary::refusals::Refusal;
 impl UnboundArena {
     /// An arena without nodes, in that memory.
     pub fn open(mut memory: Memory) -> UnboundArena
-        ensures { loose result.memory ≡ empty_unbound memory.records memory.bytes }
+        ensures { result ≡ empty_unbound memory.records memory.bytes }
     {
         memory.clear();
         UnboundArena { memory }
@@ -24,9 +23,9 @@ impl UnboundArena {
     /// schema of a Root is not looked at.
     pub fn try_new(&mut self, function: NewFunction<'_>, children: &[u32]) -> Result<u32, Refusal>
         ensures answer { result ≡ (make_unbound (new_of function.entry) children.now
-            (length children.now) (loose self.old.memory)).0 }
-        ensures after { loose self.new.memory ≡ (make_unbound (new_of function.entry) children.now
-            (length children.now) (loose self.old.memory)).1 }
+            (length children.now) self.old).0 }
+        ensures after { self.new ≡ (make_unbound (new_of function.entry) children.now
+            (length children.now) self.old).1 }
     {
         self.make(function, children)
     }
@@ -34,9 +33,9 @@ impl UnboundArena {
     /// Makes a node of the same function, on the same text, over the children. A Root over none is itself.
     pub fn with_children(&mut self, node: u32, children: &[u32]) -> Result<u32, Refusal>
         ensures answer { result ≡ (unbound_with_children node children.now
-            (length children.now) (loose self.old.memory)).0 }
-        ensures after { loose self.new.memory ≡ (unbound_with_children node children.now
-            (length children.now) (loose self.old.memory)).1 }
+            (length children.now) self.old).0 }
+        ensures after { self.new ≡ (unbound_with_children node children.now
+            (length children.now) self.old).1 }
     {
         self.rebuild(node, children)
     }
@@ -44,9 +43,9 @@ impl UnboundArena {
     /// Making, by counts alone.
     fn make(&mut self, function: NewFunction<'_>, children: &[u32]) -> Result<u32, Refusal>
         ensures answer { result ≡ (make_unbound (new_of function.entry) children.now
-            (length children.now) (loose self.old.memory)).0 }
-        ensures after { loose self.new.memory ≡ (make_unbound (new_of function.entry) children.now
-            (length children.now) (loose self.old.memory)).1 }
+            (length children.now) self.old).0 }
+        ensures after { self.new ≡ (make_unbound (new_of function.entry) children.now
+            (length children.now) self.old).1 }
     {
         self.memory.make(&Untyped, NEW_NODE, function, children)
     }
@@ -54,9 +53,9 @@ impl UnboundArena {
     /// Rebuilding, by counts alone.
     fn rebuild(&mut self, node: u32, children: &[u32]) -> Result<u32, Refusal>
         ensures answer { result ≡ (unbound_with_children node children.now
-            (length children.now) (loose self.old.memory)).0 }
-        ensures after { loose self.new.memory ≡ (unbound_with_children node children.now
-            (length children.now) (loose self.old.memory)).1 }
+            (length children.now) self.old).0 }
+        ensures after { self.new ≡ (unbound_with_children node children.now
+            (length children.now) self.old).1 }
     {
         self.memory.rebuild(&Untyped, node, children)
     }

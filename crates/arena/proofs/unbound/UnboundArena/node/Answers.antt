@@ -4,7 +4,7 @@ use Rattle.std.specs.Result.{result_map_both as both}
 use Rattle.vocabulary.specs.declared.nodes.Node.{Node}
 use Rattle.vocabulary.specs.declared.refusals.MemoryRefusal.{MemoryRefusal}
 use Rattle.vocabulary.specs.declared.refusals.MemoryRefusal.TheVariants.{NoSuchNode}
-use Rattle.model.specs.Unbound.{UnboundNode, untyped}
+use Rattle.model.specs.Unbound.{UnboundNode, UnboundStore, unbound_at, untyped}
 use Rattle.model.specs.Stores.{node_among}
 use Rattle.arena.proofs.AsUnbound.{among_untyped}
 use Rattle.arena.proofs.unbound.UnboundArena.node.Goals as goal
@@ -21,8 +21,9 @@ untyped_or (Some x) e = refl
 
 pub returns : goal.returns
 returns c =
-    let xs = reverse (vec_items c.args.self.now.memory.nodes) in
+    let xs = reverse (vec_items c.self.inside.memory.nodes) in
     let n = c.args.number in
     untyped_both c.node.result ∙ ap (λ (r : Result Node MemoryRefusal). both untyped (λ e. e) r) c.node.ensures
     ∙ untyped_or (node_among xs n) (NoSuchNode n)
     ∙ ap (λ (o : Option UnboundNode). ok_or o (NoSuchNode n)) (sym (among_untyped xs n))
+    ∙ ap (λ (u : UnboundStore). ok_or (unbound_at u n) (NoSuchNode n)) c.self.view_is
