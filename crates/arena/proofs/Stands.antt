@@ -4,7 +4,7 @@ use Rattle.std.proofs.Common.{◌++◌, reverse, length, get_or, take, Some, Non
 use Rattle.std.proofs.Common.{refl, ap, ◌∙◌, subst, arith, length-append}
 use Rattle.std.proofs.lemmas.List.{reverse-append}
 use Rattle.std.proofs.lemmas.Bool.{and_parts, and_from, leb-true, le-leb, lt-ltb, eq-eqb}
-use Rattle.vocabulary.specs.declared.nodes.Node.{Node}
+use Rattle.vocabulary.specs.Nodes.{BoundNode as Node}
 use Rattle.vocabulary.specs.declared.values.Span.{Span}
 use Rattle.vocabulary.specs.Nodes.{text_of}
 use Rattle.schemas.specs.declared.tables.Schemas.{Schemas}

@@ -1,7 +1,7 @@
 -- A node that is made by a draft is the one that making comes to.
 use Rattle.std.proofs.Common.{◌≡◌, ℕ, ◌+◌, true, List, ◌++◌, length, Ok, Err, vec_len, Result, sym, ap, ◌∙◌, subst}
 use Rattle.std.proofs.Common.{length-append}
-use Rattle.vocabulary.specs.declared.nodes.Node.{Node}
+use Rattle.vocabulary.specs.Nodes.{BoundNode as Node}
 use Rattle.vocabulary.specs.declared.refusals.Refusal.{Refusal}
 use Rattle.vocabulary.specs.Nodes.{text_of}
 use Rattle.meaning.specs.Columns.{Schemas}

@@ -1,11 +1,12 @@
 -- Unbound nodes in the memory that bound ones have, each with a type that nothing reads.
 use Rattle.std.specs.Prelude.{Bool, true, false, not, ◌&&◌, List, [], ◌∷◌, map, ◌==◌}
-use Rattle.vocabulary.specs.declared.nodes.Node.{Node}
+use Rattle.vocabulary.specs.Nodes.{BoundNode as Node}
 use Rattle.vocabulary.specs.declared.types.Kind.{Kind}
 use Rattle.vocabulary.specs.declared.types.Kind.TheVariants as kind
 use Rattle.vocabulary.specs.declared.unbound.UnboundNode.{UnboundNode as Record}
 use Rattle.model.specs.Stores.{Store}
-use Rattle.model.specs.Unbound.{UnboundNode, UnboundStore, untyped}
+use Rattle.vocabulary.specs.Nodes.{UnboundNode, untyped}
+use Rattle.model.specs.Unbound.{UnboundStore}
 
 -- the kind that every unbound node is written down with
 abbrev pub is_filler : Kind → Bool

@@ -26,7 +26,7 @@ bytes_of arena row (Arena s) = part arena s
 bytes_of arena row (Row s) = part row s
 
 -- the value that one by its place stands for, over the arena's text and the row's
-abbrev pub read : List ℕ → List ℕ → Placed → Value
+abbrev pub read : List ℕ → List ℕ → Placed Text → Value
 read arena row placed.Null = null
 read arena row (placed.Bool b) = bool b
 read arena row (placed.I64 z) = signed z
@@ -35,11 +35,11 @@ read arena row (placed.Utf8 t) = text (bytes_of arena row t)
 read arena row (placed.Extension e z) = ext e z
 
 -- the values that arguments stand for
-abbrev pub read_all : List ℕ → List ℕ → List Placed → List Value
+abbrev pub read_all : List ℕ → List ℕ → List (Placed Text) → List Value
 read_all arena row vs = map (read arena row) vs
 
 -- the values of those arguments that are literals, whose text lies in the arena
-abbrev pub read_literals : List ℕ → List (Option Placed) → List (Option Value)
+abbrev pub read_literals : List ℕ → List (Option (Placed Text)) → List (Option Value)
 read_literals arena ls = map (option_map (read arena [])) ls
 
 -- the constant that a host made

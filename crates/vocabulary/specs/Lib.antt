@@ -4,5 +4,4 @@ pub mod Operators
 pub mod Orders
 pub mod Refusals
 pub mod Types
-pub mod Unbound
 pub mod Values

@@ -9,5 +9,4 @@ pub mod refusals;
 pub mod texts;
 pub mod traversal;
 pub mod types;
-pub mod unbound;
 pub mod values;
