@@ -167,7 +167,7 @@ stays_loose place w p bs s e =
 
 -- the record of a number without its type
 pub among_untyped : (xs : List Node) (k : ℕ) → node_among (map untyped xs) k ≡ option_map untyped (node_among xs k)
-unfolding node_among node_among
+unfolding node_among
 among_untyped [] k = refl
 among_untyped (x ∷ xs) k =
     ap (λ (n : ℕ). cond (eqb k n) (Some (untyped x)) (node_among (map untyped xs) k)) (length-map xs untyped)

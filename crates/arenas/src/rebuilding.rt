@@ -62,14 +62,7 @@ impl Memory {
     fn literal_again(&self, value: Value) -> NewLiteral<'_>
         ensures { value_of result ≡ read self.now.text.items [] value }
     {
-        match value {
-            Value::Null => NewLiteral::Null,
-            Value::Bool(b) => NewLiteral::Bool(b),
-            Value::I64(x) => NewLiteral::I64(x),
-            Value::U64(x) => NewLiteral::U64(x),
-            Value::Utf8(text) => NewLiteral::Utf8(bytes_of(text, self.text.as_slice(), &[])),
-            Value::Extension(e, x) => NewLiteral::Extension(e, x),
-        }
+        value.map(|text| bytes_of(text, self.text.as_slice(), &[]))
     }
 }
 

@@ -75,7 +75,7 @@ impl<H: Host> Binder<H> {
     {
         match (*asked, types) {
             (NewFunction::Root(schema), []) => Some(DType::new(Kind::Row(schema), false)),
-            (NewFunction::Literal(dtype, value), []) => value.type_as(dtype),
+            (NewFunction::Literal(dtype, value), []) => literal_type(dtype, value),
             (NewFunction::GetItem(name), [row]) => item_type(&self.schemas, name, row.kind()),
             (NewFunction::Cast(to), [from]) => cast_type(to, *from),
             (NewFunction::Binary(operator), [left, right]) => binary_type(operator, *left, *right),
@@ -118,29 +118,13 @@ fn type_found(sought: Result<Option<Found>, Refusal>) -> Option<DType>
     }
 }
 
-impl NewLiteral<'_> {
-    /// The type of the literal, where it is plain and the value is one of its values.
-    fn type_as(self, dtype: DType) -> Option<DType>
-        ensures { result ≡ literal_type dtype (value_of self.entry) }
-    {
-        if self.fits(dtype) && dtype.is_plain() {
-            Some(dtype)
-        } else {
-            None
-        }
-    }
-
-    /// Whether it is among the values of a type.
-    fn fits(self, dtype: DType) -> bool
-        ensures { result ≡ fits (value_of self.entry) dtype }
-    {
-        match self {
-            NewLiteral::Null => dtype.is_nullable(),
-            NewLiteral::Bool(_) => dtype.kind() == Kind::Bool,
-            NewLiteral::I64(_) => dtype.kind() == Kind::I64,
-            NewLiteral::U64(_) => dtype.kind() == Kind::U64,
-            NewLiteral::Utf8(_) => dtype.kind() == Kind::Utf8,
-            NewLiteral::Extension(e, _) => dtype.kind() == Kind::Extension(e),
-        }
+/// The type of a literal, where it is plain and the value is one of its values.
+fn literal_type(dtype: DType, value: NewLiteral<'_>) -> Option<DType>
+    ensures { result ≡ literal_type dtype (value_of value.entry) }
+{
+    if value.fits(dtype) && dtype.is_plain() {
+        Some(dtype)
+    } else {
+        None
     }
 }
