@@ -9,7 +9,6 @@ use Rattle.vocabulary.specs.declared.values.Span.{Span}
 use Rattle.vocabulary.specs.Nodes.{text_of}
 use Rattle.schemas.specs.declared.tables.Schemas.{Schemas}
 use Rattle.schemas.specs.Fields.{Field}
-use Rattle.schemas.specs.Tables.{all_fields}
 use Rattle.meaning.specs.Hosts.{Meaning}
 use Rattle.model.specs.Making.{Plan, named, build, deepest, total_size, new_plan}
 use Rattle.model.specs.Soundness.{Below, EndsWithin}
@@ -168,6 +167,6 @@ same_store ss a b t u r q n k e f g h = cc
 pub added_grown : (ss : Schemas) (h later : Held) (x : Node) (more : List ℕ) → Added h later x more
     → store ss later ≡ grown x more (store ss h)
 added_grown ss h later x more a =
-    same_store (all_fields ss) _ _ _ _ _ _ _ _
+    same_store ss _ _ _ _ _ _ _ _
     (ap (λ (z : List Node). reverse z) a.nodes ∙ reverse-append (vec_items h.nodes) (x ∷ []))
     a.text a.records a.bytes

@@ -1,14 +1,13 @@
 -- An arena's parts as the value that its calls are defined on.
 use Rattle.std.specs.Prelude.{reverse, vec_items}
 use Rattle.schemas.specs.declared.tables.Schemas.{Schemas}
-use Rattle.schemas.specs.Tables.{all_fields}
 use Rattle.model.specs.Stores.{Store}
 use Rattle.arena.specs.declared.memory.Memory.{Memory}
 
 -- schemas by their columns, nodes with the newest first, text, and the limits
 abbrev pub store : Schemas → Memory → Store
 store ss m = record {
-  schemas = all_fields ss;
+  schemas = ss;
   nodes = reverse (vec_items m.nodes);
   text = vec_items m.text;
   records = m.records;

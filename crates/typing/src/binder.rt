@@ -1,5 +1,4 @@
 ghost use Rattle.std.specs.Prelude.{◌≡◌};
-ghost use Rattle.schemas.specs.Tables.{all_fields};
 ghost use Rattle.meaning.specs.Columns.{column_type};
 ghost use Rattle.meaning.specs.Typing.{item_type};
 ghost use Rattle.meaning.specs.Values.{fits};
@@ -25,7 +24,7 @@ pub struct Binder<H: Host> {
 }
 
 impl<H: Host> Typist for Binder<H> {
-    ghost typing = { λ b. bound_typing (H.Host.meaning b.host) (all_fields b.schemas) };
+    ghost typing = { λ b. bound_typing (H.Host.meaning b.host) b.schemas };
 
     /// The host has the function, it takes so many children, and they have types that it takes.
     fn type_of(
@@ -71,7 +70,7 @@ impl<H: Host> Binder<H> {
     /// The type of the function over children of those types, if it binds.
     fn bound(&self, asked: &NewFunction<'_>, types: &[DType]) -> Option<DType>
         ensures { result ≡ asked_type (H.Host.meaning self.now.host)
-            (all_fields self.now.schemas) (new_of asked.now) types.now }
+            self.now.schemas (new_of asked.now) types.now }
     {
         match (*asked, types) {
             (NewFunction::Root(schema), []) => Some(DType::new(Kind::Row(schema), false)),
@@ -90,7 +89,7 @@ impl<H: Host> Binder<H> {
 
 /// The type of a row's column of that name; nothing else has columns.
 fn item_type(schemas: &Schemas, name: &[u8], row: Kind) -> Option<DType>
-    ensures { result ≡ item_type (all_fields schemas.now) name.now row }
+    ensures { result ≡ item_type schemas.now name.now row }
 {
     match row {
         Kind::Row(schema) => column_type(schemas, schema, name),
@@ -100,7 +99,7 @@ fn item_type(schemas: &Schemas, name: &[u8], row: Kind) -> Option<DType>
 
 /// The type of a schema's column of that name.
 fn column_type(schemas: &Schemas, schema: u8, name: &[u8]) -> Option<DType>
-    ensures { result ≡ column_type (all_fields schemas.now) schema name.now }
+    ensures { result ≡ column_type schemas.now schema name.now }
 {
     if schema as usize >= schemas.len() {
         return None;
