@@ -1,8 +1,10 @@
+pub mod AsModelled
+pub mod AsUnbound
 pub mod Drafts
 pub mod Families
-pub mod Heads
+pub mod Kept
 pub mod Looking
+pub mod Made
 pub mod Numbered
-pub mod Redrafts
-pub mod Sought
+pub mod Remade
 pub mod Stands

@@ -1,172 +1,228 @@
 -- Records that are entered stand, and those before them still do.
-use Rattle.std.proofs.Common.{◌≡◌, ℕ, zero, suc, ◌+◌, ◌<◌, ◌≤◌, min, Bool, true, ◌&&◌, eqb, ltb, leb, List, [], ◌∷◌}
-use Rattle.std.proofs.Common.{◌++◌, reverse, length, get_or, take, Some, None, Ok, vec_items, vec_len, Option, sym}
-use Rattle.std.proofs.Common.{refl, ap, ◌∙◌, subst, arith, length-append}
+use Rattle.std.proofs.Common.{◌≡◌, ℕ, suc, ◌+◌, ◌<◌, ◌≤◌, min, Bool, true, false, cond, ◌&&◌, eqb, ltb, leb, List, []}
+use Rattle.std.proofs.Common.{◌∷◌, ◌++◌, reverse, length, Some, None, Ok, Err, vec_items, vec_len, Option, Result}
+use Rattle.std.proofs.Common.{sym, refl, ap, ◌∙◌, subst, arith}
 use Rattle.std.proofs.lemmas.List.{reverse-append}
-use Rattle.std.proofs.lemmas.Bool.{and_parts, and_from, leb-true, le-leb, lt-ltb, eq-eqb}
+use Rattle.std.proofs.lemmas.Bool.{and_parts, and_from, leb-true, ltb-true, le-leb, eq-eqb, eqb-true}
 use Rattle.vocabulary.specs.Nodes.{BoundNode as Node}
+use Rattle.vocabulary.specs.declared.refusals.BindingRefusal.{BindingRefusal}
+use Rattle.vocabulary.specs.declared.types.DType.{DType}
 use Rattle.vocabulary.specs.declared.values.Span.{Span}
 use Rattle.vocabulary.specs.Nodes.{text_of}
-use Rattle.schemas.specs.declared.tables.Schemas.{Schemas}
-use Rattle.schemas.specs.Fields.{Field}
-use Rattle.meaning.specs.Hosts.{Meaning}
-use Rattle.model.specs.Making.{Plan, named, build, deepest, total_size, new_plan}
-use Rattle.model.specs.Soundness.{Below, EndsWithin}
-use Rattle.model.specs.Stores.{Store, grown}
-use Rattle.model.specs.Wanted.{New, new_bytes}
-use Rattle.model.proofs.Children.{found_below}
+use Rattle.meaning.specs.Columns.{Schemas}
+use Rattle.meaning.proofs.CaseSplits.{none_some, some_same}
+use Rattle.model.specs.Making.{Plan, named, looked_up, with_record, types_of, deepest, total_size, new_record}
+use Rattle.model.specs.Shapes.{kids}
+use Rattle.model.specs.Soundness.{EndsWithin}
+use Rattle.model.specs.Stores.{Store, node_among, grown}
+use Rattle.model.proofs.Children.{err_ok, ok_same}
 use Rattle.model.proofs.Growing.{padded_named, padded_eight}
-use Rattle.model.proofs.Plans.{Built, built, new_honest}
-use Rattle.model.proofs.Stepping.{schema_passed}
+use Rattle.model.proofs.Plans.{checked}
 use Rattle.arena.specs.declared.memory.Memory.{Memory as Held}
-use Rattle.arena.specs.Drafting.{drafted}
+use Rattle.arena.specs.Building.{sized_as, typed_over, build_by}
 use Rattle.arena.specs.Opened.{store}
-use Rattle.arena.specs.Standing.{all_below, ends_within, stands, all_stand}
-use Rattle.arena.proofs.Drafts.{draft_is, nodes_length}
+use Rattle.arena.specs.Standing.{found_among, ends_within, measures, stands, all_stand}
+use Rattle.arena.proofs.Drafts.{nodes_length}
 
 ends_more : (len more : ℕ) (o : Option Span) → ends_within len o ≡ true → ends_within (len + more) o ≡ true
 ends_more len more None h = refl
 ends_more len more (Some p) h =
     le-leb (p.start + p.len) (len + more) (omega (arith, leb-true (p.start + p.len) len h))
 
--- a record stands in a longer text
-stands_more : (len more n : ℕ) (x : Node) → stands len n x ≡ true → stands (len + more) n x ≡ true
-stands_more len more n x h =
-    let o = text_of x.function in
-    let few : Bool = leb x.child_count 8 && eqb (length x.children) 8 in
-    let older : Bool = all_below n (take x.child_count x.children) in
-    let small : Bool = leb x.depth 256 && leb x.size 4096 in
-    let (a, h2) = and_parts few (older && (small && ends_within len o)) h in
-    let (b, h3) = and_parts older (small && ends_within len o) h2 in
-    let (c, d) = and_parts small (ends_within len o) h3 in
-    and_from few (older && (small && ends_within (len + more) o)) a
-    (and_from older (small && ends_within (len + more) o) b
-    (and_from small (ends_within (len + more) o) c (ends_more len more o d)))
+-- the parts of a record that stands
+pub record Stood (len : ℕ) (older : List Node) (x : Node) : Type 0 where
+  pub few : leb x.child_count 8 && eqb (length x.children) 8 ≡ true
+  pub measured : measures x (found_among older (kids x)) ≡ true
+  pub inside : ends_within len (text_of x.function) ≡ true
 
--- one more record, behind a longer text
-pub all_stand_more : (len more n : ℕ) (xs : List Node) (x : Node) → all_stand len n xs ≡ true
-    → stands (len + more) (n + length xs) x ≡ true → all_stand (len + more) n (xs ++ (x ∷ [])) ≡ true
-all_stand_more len more n [] x h k =
-    let e : n + 0 ≡ n = omega arith in
-    and_from (stands (len + more) n x) true (rw e at k) refl
-all_stand_more len more n (y ∷ xs) x h k =
-    let (a, b) = and_parts (stands len n y) (all_stand len (n + 1) xs) h in
-    let e : n + suc (length xs) ≡ n + 1 + length xs = omega arith in
-    and_from (stands (len + more) n y) (all_stand (len + more) (n + 1) (xs ++ (x ∷ []))) (stands_more len more n y a)
-    (all_stand_more len more (n + 1) xs x b (rw e at k))
-
--- each of the records stands
-pub stands_at : (len n : ℕ) (xs : List Node) (i : ℕ) (d : Node) → all_stand len n xs ≡ true → i < length xs
-    → stands len (n + i) (get_or xs i d) ≡ true
-stands_at len n [] i d h l = absurd (omega arith)
-stands_at len n (x ∷ xs) zero d h l =
-    let e : n + 0 ≡ n = omega arith in
-    rw e (and_parts (stands len n x) (all_stand len (n + 1) xs) h).0
-stands_at len n (x ∷ xs) (suc i) d h l =
-    let e : n + suc i ≡ n + 1 + i = omega arith in
-    rw e (stands_at len (n + 1) xs i d (and_parts (stands len n x) (all_stand len (n + 1) xs) h).1 (omega arith))
-
--- a record that stands has its text inside
-pub stands_ends : (len n : ℕ) (x : Node) → stands len n x ≡ true → ends_within len (text_of x.function) ≡ true
-stands_ends len n x h =
-    let few : Bool = leb x.child_count 8 && eqb (length x.children) 8 in
-    let older : Bool = all_below n (take x.child_count x.children) in
-    let small : Bool = leb x.depth 256 && leb x.size 4096 in
+pub stood : (len : ℕ) (older : List Node) (x : Node) → stands len older x ≡ true → Stood len older x
+stood len older x h =
+    let small : Bool = leb x.child_count 8 && eqb (length x.children) 8 in
+    let level : Bool = measures x (found_among older (kids x)) in
     let last : Bool = ends_within len (text_of x.function) in
-    (and_parts small last (and_parts older (small && last) (and_parts few (older && (small && last)) h).1).1).1
+    let (a, h2) = and_parts small (level && last) h in
+    let (b, c) = and_parts level last h2 in
+    record { few = a; measured = b; inside = c }
 
-each_below : (n : ℕ) (ks : List ℕ) → Below n ks → all_below n ks ≡ true
-each_below n [] w = refl
-each_below n (k ∷ ks) w = and_from (ltb k n) (all_below n ks) (lt-ltb k n w.0) (each_below n ks w.1)
+pub stands_by : (len : ℕ) (older : List Node) (x : Node) → Stood len older x → stands len older x ≡ true
+stands_by len older x s =
+    let small : Bool = leb x.child_count 8 && eqb (length x.children) 8 in
+    let level : Bool = measures x (found_among older (kids x)) in
+    let last : Bool = ends_within len (text_of x.function) in
+    and_from small (level && last) s.few (and_from level last s.measured s.inside)
 
-ends_inside : (all : List ℕ) (o : Option Span) → EndsWithin all o → ends_within (length all) o ≡ true
-ends_inside all None h = refl
-ends_inside all (Some p) h = le-leb (p.start + p.len) (length all) h
+-- a record stands in a longer text
+stands_more : (len more : ℕ) (older : List Node) (x : Node) → stands len older x ≡ true
+    → stands (len + more) older x ≡ true
+stands_more len more older x h =
+    let s = stood len older x h in
+    stands_by (len + more) older x (record {
+      few = s.few;
+      measured = s.measured;
+      inside = ends_more len more (text_of x.function) s.inside;
+    })
+
+-- all records stand in a longer text
+pub all_stand_more : (len more : ℕ) (xs : List Node) → all_stand len xs ≡ true → all_stand (len + more) xs ≡ true
+all_stand_more len more [] h = refl
+all_stand_more len more (x ∷ xs) h =
+    let (a, b) = and_parts (stands len xs x) (all_stand len xs) h in
+    and_from (stands (len + more) xs x) (all_stand (len + more) xs) (stands_more len more xs x a)
+    (all_stand_more len more xs b)
+
+-- where a record of a number lies, and that it stands there
+pub record Lies (len : ℕ) (xs : List Node) (k : ℕ) (x : Node) : Type 0 where
+  pub newer : List Node
+  pub older : List Node
+  pub whole : xs ≡ newer ++ (x ∷ older)
+  pub number : k ≡ length older
+  pub there : stands len older x ≡ true
+
+pub lies : (len : ℕ) (xs : List Node) (k : ℕ) (x : Node) → all_stand len xs ≡ true → node_among xs k ≡ Some x
+    → Lies len xs k x
+unfolding node_among
+lies len [] k x h e = none_some x e
+lies len (y ∷ ys) k x h e = go (lies len ys k x parts.1) (eqb k (length ys)) refl e
+  where
+    parts : (stands len ys y ≡ true) × (all_stand len ys ≡ true)
+    parts = and_parts (stands len ys y) (all_stand len ys) h
+
+    go : (node_among ys k ≡ Some x → Lies len ys k x)
+        → (b : Bool) → eqb k (length ys) ≡ b → cond b (Some y) (node_among ys k) ≡ Some x → Lies len (y ∷ ys) k x
+    go rest true i f =
+        let same = some_same f in
+        record {
+          newer = [];
+          older = ys;
+          whole = ap (λ (z : Node). z ∷ ys) same;
+          number = eqb-true k (length ys) i;
+          there = subst (λ (z : Node). stands len ys z ≡ true) same parts.0;
+        }
+    go rest false i f =
+        let l = rest f in
+        record {
+          newer = y ∷ l.newer;
+          older = l.older;
+          whole = ap (λ (zs : List Node). y ∷ zs) l.whole;
+          number = l.number;
+          there = l.there;
+        }
+
+-- what is looked up in a store is found among its nodes
+pub looked_found : (s : Store) (ks : List ℕ) → looked_up s ks ≡ found_among s.nodes ks
+looked_found s [] = refl
+looked_found s (k ∷ ks) = ap (with_record k (node_among s.nodes k)) (looked_found s ks)
+
+-- what a granted plan has passed
+pub record Built (p : Plan) (s : Store) (x : Node) : Type 0 where
+  pub records : List Node
+  pub type : DType
+  pub there : looked_up s (named p.children p.count) ≡ Ok records
+  pub shallow : suc (deepest records) ≤ 256
+  pub small : suc (total_size records) ≤ 4096
+  pub room : length s.nodes < s.records
+  pub text_room : length s.text + length p.adds ≤ s.bytes
+  pub is : x ≡ new_record p type records
+
+pub built : (types : List DType → Result DType BindingRefusal) (p : Plan) (s : Store) (x : Node)
+    → build_by types p s ≡ Ok x → Built p s x
+unfolding build_by
+built types p s x e = over (looked_up s (named p.children p.count)) refl e
+  where
+    typed : (xs : List Node) → looked_up s (named p.children p.count) ≡ Ok xs
+        → (t : Result DType BindingRefusal) → sized_as p s xs t ≡ Ok x → Built p s x
+    typed xs a (Err r) h = err_ok _ x h
+    typed xs a (Ok t) h =
+        let (deep, h2) = checked (leb (suc (deepest xs)) 256) _ _ x h in
+        let (large, h3) = checked (leb (suc (total_size xs)) 4096) _ _ x h2 in
+        let (free, h4) = checked (ltb (length s.nodes) s.records) _ _ x h3 in
+        let (long, h5) = checked (leb (length s.text + length p.adds) s.bytes) _ _ x h4 in
+        record {
+          records = xs;
+          type = t;
+          there = a;
+          shallow = leb-true (suc (deepest xs)) 256 deep;
+          small = leb-true (suc (total_size xs)) 4096 large;
+          room = ltb-true (length s.nodes) s.records free;
+          text_room = leb-true (length s.text + length p.adds) s.bytes long;
+          is = sym (ok_same h5);
+        }
+
+    over : (r : Result (List Node) ℕ) → looked_up s (named p.children p.count) ≡ r
+        → typed_over types p s r ≡ Ok x → Built p s x
+    over (Err k) a h = err_ok _ x h
+    over (Ok xs) a h = typed xs a (types (types_of xs)) h
 
 -- a record that a plan comes to stands
-built_stands : (m : Meaning) (p : Plan) (s : Store) (x : Node) → Built m p s x → length p.children ≡ 8
-    → (len : ℕ) → ends_within len (text_of p.function) ≡ true → stands len (length s.nodes) x ≡ true
-built_stands m p s x b eight len ends =
+built_stands : (p : Plan) (s : Store) (x : Node) → Built p s x → length p.children ≡ 8
+    → (len : ℕ) → ends_within len (text_of p.function) ≡ true → stands len s.nodes x ≡ true
+built_stands p s x b eight len ends =
     let n = p.count in
     let cs = p.children in
-    let below = each_below (length s.nodes) (named cs n) (found_below s (named cs n) b.records b.there) in
-    let older = ap (all_below (length s.nodes)) (padded_named cs n eight) ∙ below in
-    subst (λ (z : Node). stands len (length s.nodes) z ≡ true) (sym b.is)
-    (and_from _ _
-    (and_from _ _ (le-leb (min n 8) 8 (omega arith)) (eq-eqb _ 8 (padded_eight cs n eight)))
-    (and_from _ _ older
-    (and_from _ _
-    (and_from _ _ (le-leb (suc (deepest b.records)) 256 b.shallow)
-    (le-leb (suc (total_size b.records)) 4096 b.small))
-    ends)))
+    let y = new_record p b.type b.records in
+    let found : found_among s.nodes (kids y) ≡ Ok b.records =
+    ap (found_among s.nodes) (padded_named cs n eight) ∙ sym (looked_found s (named cs n)) ∙ b.there in
+    subst (λ (z : Node). stands len s.nodes z ≡ true) (sym b.is)
+    (stands_by len s.nodes y (record {
+      few = and_from _ _ (le-leb (min n 8) 8 (omega arith)) (eq-eqb _ 8 (padded_eight cs n eight));
+      measured =
+          ap (measures y) found
+          ∙ and_from _ _
+          (and_from _ _ (eq-eqb (suc (deepest b.records)) _ refl) (eq-eqb (suc (total_size b.records)) _ refl))
+          (and_from _ _ (le-leb (suc (deepest b.records)) 256 b.shallow)
+          (le-leb (suc (total_size b.records)) 4096 b.small));
+      inside = ends;
+    }))
 
 -- there is room for a record and for bytes, and the record stands
 pub record FitsIn (h : Held) (x : Node) (more : ℕ) : Type 0 where
   pub room : vec_len h.nodes < h.records
   pub text_room : vec_len h.text + more ≤ h.bytes
-  pub stands_there : stands (vec_len h.text + more) (vec_len h.nodes) x ≡ true
+  pub stands_there : stands (vec_len h.text + more) (reverse (vec_items h.nodes)) x ≡ true
 
 -- what a plan comes to fits
-pub build_fits : (m : Meaning) (ss : Schemas) (h : Held) (p : Plan) (x : Node) → length p.children ≡ 8
+pub build_fits : (types : List DType → Result DType BindingRefusal) (ss : Schemas) (h : Held) (p : Plan) (x : Node)
+    → length p.children ≡ 8
     → ends_within (vec_len h.text + length p.adds) (text_of p.function) ≡ true
-    → build m p (store ss h) ≡ Ok x → FitsIn h x (length p.adds)
-build_fits m ss h p x eight ends e =
-    let b = built m p (store ss h) x e in
-    let k = nodes_length ss h in
+    → build_by types p (store ss h) ≡ Ok x → FitsIn h x (length p.adds)
+build_fits types ss h p x eight ends e =
+    let b = built types p (store ss h) x e in
     record {
-      room = omega (arith, b.room, k);
+      room = omega (arith, b.room, nodes_length ss h);
       text_room = omega (arith, b.text_room, h.text.ok.0);
-      stands_there =
-          subst (λ (n : ℕ). stands (vec_len h.text + length p.adds) n x ≡ true) (sym k)
-          (built_stands m p (store ss h) x b eight (vec_len h.text + length p.adds) ends);
+      stands_there = built_stands p (store ss h) x b eight (vec_len h.text + length p.adds) ends;
     }
 
--- a new node that is drafted fits
-pub draft_fits : (m : Meaning) (ss : Schemas) (h : Held) (w : New) (cs : List ℕ) (n : ℕ) (x : Node) → length cs ≡ 8
-    → Ok x ≡ drafted m ss h w cs n → FitsIn h x (length (new_bytes w))
-draft_fits m ss h w cs n x eight e =
-    let s = store ss h in
-    let p = new_plan w cs n s in
-    let made = schema_passed w (build m p s) x (sym (e ∙ draft_is m ss h w cs n eight)) in
-    let inside = ends_inside (s.text ++ new_bytes w) (text_of p.function) (new_honest m s w cs n).ends in
-    let l : length (s.text ++ new_bytes w) ≡ vec_len h.text + length (new_bytes w) =
-    length-append s.text (new_bytes w) ∙ ap (λ (k : ℕ). k + length (new_bytes w)) (sym h.text.ok.0) in
-    build_fits m ss h p x eight (subst (λ (k : ℕ). ends_within k (text_of p.function) ≡ true) l inside) made
+pub ends_inside : (all : List ℕ) (o : Option Span) → EndsWithin all o → ends_within (length all) o ≡ true
+ends_inside all None h = refl
+ends_inside all (Some p) h = le-leb (p.start + p.len) (length all) h
 
--- the memory after a record and bytes were added, with the limits as they were
-pub record Added (h later : Held) (x : Node) (more : List ℕ) : Type 0 where
-  pub nodes : vec_items later.nodes ≡ vec_items h.nodes ++ (x ∷ [])
-  pub text : vec_items later.text ≡ vec_items h.text ++ more
-  pub records : later.records ≡ h.records
-  pub bytes : later.bytes ≡ h.bytes
+-- all records stand after one was added behind them, and bytes behind the text
+pub added_stand : (h : Held) (xs : List Node) (len : ℕ) (x : Node) (more : List ℕ)
+    → xs ≡ vec_items h.nodes ++ (x ∷ []) → len ≡ vec_len h.text + length more
+    → stands (vec_len h.text + length more) (reverse (vec_items h.nodes)) x ≡ true
+    → all_stand len (reverse xs) ≡ true
+added_stand h xs len x more nodes longer new =
+    let old = vec_items h.nodes in
+    let size = vec_len h.text in
+    ap (λ (k : ℕ). all_stand k (reverse xs)) longer
+    ∙ ap (λ (zs : List Node). all_stand (size + length more) (reverse zs)) nodes
+    ∙ ap (all_stand (size + length more)) (reverse-append old (x ∷ []))
+    ∙ and_from (stands (size + length more) (reverse old) x) (all_stand (size + length more) (reverse old)) new
+    (all_stand_more size (length more) (reverse old) h.sound)
 
--- all records stand after it
-pub added_stand : (h later : Held) (x : Node) (more : List ℕ) → Added h later x more
-    → all_stand (vec_len h.text) 0 (vec_items h.nodes) ≡ true
-    → stands (vec_len h.text + length more) (vec_len h.nodes) x ≡ true
-    → all_stand (vec_len later.text) 0 (vec_items later.nodes) ≡ true
-added_stand h later x more a sound new =
-    let xs = vec_items h.nodes in
-    let len = vec_len h.text in
-    let longer : vec_len later.text ≡ len + length more =
-    later.text.ok.0 ∙ ap length a.text ∙ length-append (vec_items h.text) more
-    ∙ ap (λ (k : ℕ). k + length more) (sym h.text.ok.0) in
-    let next : vec_len h.nodes ≡ 0 + length xs = omega (arith, h.nodes.ok.0) in
-    ap (λ (k : ℕ). all_stand k 0 (vec_items later.nodes)) longer
-    ∙ ap (all_stand (len + length more) 0) a.nodes
-    ∙ all_stand_more len (length more) 0 xs x sound
-    (subst (λ (k : ℕ). stands (len + length more) k x ≡ true) next new)
-
-same_store : (ss : List (List Field)) (a b : List Node) (t u : List ℕ) (r q n k : ℕ)
+same_store : (ss : Schemas) (a b : List Node) (t u : List ℕ) (r q n k : ℕ)
     → a ≡ b → t ≡ u → r ≡ q → n ≡ k
     → ◌≡◌ {A = Store} (record { schemas = ss; nodes = a; text = t; records = r; bytes = n })
     (record { schemas = ss; nodes = b; text = u; records = q; bytes = k })
 same_store ss a b t u r q n k e f g h = cc
 
 -- and the store has grown by it
-pub added_grown : (ss : Schemas) (h later : Held) (x : Node) (more : List ℕ) → Added h later x more
-    → store ss later ≡ grown x more (store ss h)
-added_grown ss h later x more a =
+pub added_grown : (ss : Schemas) (h : Held) (xs : List Node) (text : List ℕ) (x : Node) (more : List ℕ)
+    → xs ≡ vec_items h.nodes ++ (x ∷ []) → text ≡ vec_items h.text ++ more
+    → ◌≡◌ {A = Store}
+    (record { schemas = ss; nodes = reverse xs; text = text; records = h.records; bytes = h.bytes })
+    (grown x more (store ss h))
+added_grown ss h xs text x more nodes bytes =
     same_store ss _ _ _ _ _ _ _ _
-    (ap (λ (z : List Node). reverse z) a.nodes ∙ reverse-append (vec_items h.nodes) (x ∷ []))
-    a.text a.records a.bytes
+    (ap (λ (z : List Node). reverse z) nodes ∙ reverse-append (vec_items h.nodes) (x ∷ [])) bytes refl refl

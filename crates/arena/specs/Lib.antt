@@ -1,10 +1,13 @@
-pub mod Asked
-pub mod Binding
+pub mod Bound
+pub mod Building
 pub mod Drafting
+pub mod Loose
 pub mod Opened
+pub mod OpenedUnbound
 pub mod Placing
 pub mod Reading
 pub mod Rebuilding
 pub mod Reserving
 pub mod Standing
 pub mod Surveying
+pub mod Trials

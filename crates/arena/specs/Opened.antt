@@ -1,6 +1,7 @@
 -- An arena's parts as the value that its calls are defined on.
 use Rattle.std.specs.Prelude.{reverse, vec_items}
-use Rattle.schemas.specs.declared.tables.Schemas.{Schemas}
+use Rattle.schemas.specs.declared.tables.Schemas.{Schemas as Declared}
+use Rattle.meaning.specs.Columns.{Schemas}
 use Rattle.model.specs.Stores.{Store}
 use Rattle.arena.specs.declared.memory.Memory.{Memory}
 
@@ -13,3 +14,7 @@ store ss m = record {
   records = m.records;
   bytes = m.bytes;
 }
+
+-- the same over the schemas that were declared
+abbrev pub opened : Declared → Memory → Store
+opened ss m = store ss m

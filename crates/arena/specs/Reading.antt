@@ -6,6 +6,8 @@ use Rattle.vocabulary.specs.Nodes.{BoundNode as Node}
 use Rattle.vocabulary.specs.declared.refusals.MemoryRefusal.TheVariants.{NoSuchNode}
 use Rattle.vocabulary.specs.declared.refusals.Refusal.{Refusal}
 use Rattle.vocabulary.specs.declared.refusals.Refusal.TheVariants.{Memory}
+use Rattle.vocabulary.specs.Nodes.{UnboundNode}
+use Rattle.model.specs.Unbound.{UnboundStore, unbound_at}
 use Rattle.model.specs.Stores.{Store, node_at}
 
 -- the answer by a record, or the refusal of a number that no node has
@@ -21,3 +23,13 @@ of_node s k answer = of_record k (node_at s k) answer
 abbrev pub read_bytes : Result (Option (Bor (List ℕ))) Refusal → Result (Option (List ℕ)) Refusal
 read_bytes (Ok o) = Ok (option_map (λ (b : Bor (List ℕ)). b.now) o)
 read_bytes (Err e) = Err e
+
+-- the answer by an unbound record, or the refusal of a number that no node has
+abbrev pub of_unbound_record : {X : Type 0} → ℕ → Option UnboundNode → (UnboundNode → Result X Refusal)
+    → Result X Refusal
+of_unbound_record k None answer = Err (Memory (NoSuchNode k))
+of_unbound_record k (Some x) answer = answer x
+
+-- the answer by the record of a number among unbound nodes
+abbrev pub of_unbound : {X : Type 0} → UnboundStore → ℕ → (UnboundNode → Result X Refusal) → Result X Refusal
+of_unbound u k answer = of_unbound_record k (unbound_at u k) answer

@@ -1,4 +1,5 @@
 use vocabulary::types::DType;
+use vocabulary::values::Span;
 
 /// What the children of a node come to: their types from the front, the largest depth and the sum of the sizes.
 #[derive(Drop)]
@@ -8,10 +9,11 @@ pub(crate) struct Kin {
     pub(crate) size: u32,
 }
 
-/// What binding finds of a node.
+/// What is found of a node before it is recorded, and where its text would lie.
 #[derive(Drop)]
-pub(crate) struct Bound {
+pub(crate) struct Draft {
     pub(crate) dtype: DType,
     pub(crate) depth: u16,
     pub(crate) size: u16,
+    pub(crate) span: Span,
 }

@@ -1,10 +1,12 @@
-//! The arena: it owns its schemas, its host and its memory, and its nodes are made, rebuilt and read here.
+//! Arenas of bound and of unbound trees: their nodes are made, rebuilt and read here.
 #![tactic(auto)]
 
 pub mod arena;
-pub mod asking;
-pub mod binding;
+pub mod attempt;
+pub mod attempts;
+pub mod bound;
 pub mod bounds;
+pub mod cutting;
 pub mod making;
 pub mod memory;
 pub mod opening;
@@ -14,4 +16,6 @@ pub mod rebuilding;
 pub mod records;
 pub mod reserving;
 pub mod survey;
-pub mod typing;
+pub mod unbound;
+pub mod unbound_making;
+pub mod unbound_reading;

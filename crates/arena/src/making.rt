@@ -1,136 +1,115 @@
-ghost use Rattle.std.specs.Prelude.{◌≡◌, ◌+◌, ◌<◌, ◌≤◌, true, length, vec_len};
-ghost use Rattle.model.specs.Making.{make};
+ghost use Rattle.std.specs.Prelude.{◌≡◌, ◌+◌, ◌<◌, ◌≤◌, true, ◌++◌, reverse, length, vec_len, vec_capacity};
+ghost use Rattle.meaning.specs.Columns.{Schemas};
 ghost use Rattle.model.specs.Stores.{grown};
-ghost use Rattle.arena.specs.Asked.{new_of};
-ghost use Rattle.arena.specs.Drafting.{bound_by, bound_over, noted, schema_there, drafted};
+ghost use Rattle.typing.specs.Asked.{new_of};
+ghost use Rattle.arena.specs.Building.{make_by};
+ghost use Rattle.arena.specs.Drafting.{drafted, drafted_over, noted};
 ghost use Rattle.arena.specs.Opened.{store};
 ghost use Rattle.arena.specs.Standing.{stands};
 
-use crate::arena::Arena;
-use crate::asking::NewFunction;
-use crate::bounds::{Bound, Kin};
-use meaning::host::Host;
-use schemas::schemas::SCHEMAS;
-use vocabulary::nodes::{Function, NEW_NODE, Node};
-use vocabulary::refusals::{MemoryRefusal, Refusal};
+use crate::bounds::{Draft, Kin};
+use crate::memory::Memory;
+use typing::asking::NewFunction;
+use typing::typist::Typist;
+use vocabulary::nodes::{Function, Node};
+use vocabulary::refusals::Refusal;
 
-impl<H: Host> Arena<H> {
+impl Memory {
     /// Makes a node over the first `count` of the children, and answers its number. Its text goes behind the text.
-    pub fn try_new(
+    pub(crate) fn make<T: Typist>(
         &mut self,
-        function: NewFunction<'_>,
+        typist: &T,
+        place: u32,
+        asked: NewFunction<'_>,
         children: [u32; 8],
         count: u8,
     ) -> Result<u32, Refusal>
-        ensures answer { result ≡ (make (H.Host.meaning self.old.host) (new_of function.entry)
-            children count (store self.old.schemas self.old.memory)).0 }
-        ensures after { store self.new.schemas self.new.memory
-            ≡ (make (H.Host.meaning self.old.host) (new_of function.entry) children count
-            (store self.old.schemas self.old.memory)).1 }
-        ensures host { self.new.host ≡ self.old.host }
+        ensures answer { (ss : Schemas) → result ≡ (make_by (T.Typist.typing typist.now) place
+            (new_of asked.entry) children count (store ss self.old)).0 }
+        ensures after { (ss : Schemas) → store ss self.new ≡ (make_by
+            (T.Typist.typing typist.now) place (new_of asked.entry) children count
+            (store ss self.old)).1 }
     {
-        self.make(function, children, count)
-    }
-
-    /// The same, by a draft that is entered.
-    fn make(
-        &mut self,
-        function: NewFunction<'_>,
-        children: [u32; 8],
-        count: u8,
-    ) -> Result<u32, Refusal>
-        ensures answer { result ≡ (make (H.Host.meaning self.old.host) (new_of function.entry)
-            children count (store self.old.schemas self.old.memory)).0 }
-        ensures after { store self.new.schemas self.new.memory
-            ≡ (make (H.Host.meaning self.old.host) (new_of function.entry) children count
-            (store self.old.schemas self.old.memory)).1 }
-        ensures host { self.new.host ≡ self.old.host }
-    {
-        let node = self.draft(function, children, count)?;
-        Ok(self.enter(node, function.bytes()))
+        let bytes = asked.bytes();
+        let draft = self.draft(typist, place, &asked, children, count, bytes.len())?;
+        let function = asked.placed(draft.span);
+        Ok(self.enter(draft.record(function, children, count), bytes))
     }
 
     /// Records a node, with bytes behind the text, and answers its number.
     pub(crate) fn enter(&mut self, node: Node, more: &[u8]) -> u32
-        requires room { vec_len self.old.memory.nodes < self.old.memory.records }
-        requires text_room { vec_len self.old.memory.text + length more.now ≤ self.old.memory.bytes }
-        requires standing { stands (vec_len self.old.memory.text + length more.now)
-            (vec_len self.old.memory.nodes) node ≡ true }
-        ensures number { result ≡ length (store self.old.schemas self.old.memory).nodes }
-        ensures after { store self.new.schemas self.new.memory
-            ≡ grown node more.now (store self.old.schemas self.old.memory) }
-        ensures host { self.new.host ≡ self.old.host }
+        requires room { vec_len self.old.nodes < self.old.records }
+        requires text_room { vec_len self.old.text + length more.now ≤ self.old.bytes }
+        requires standing { stands (vec_len self.old.text + length more.now)
+            (reverse self.old.nodes.items) node ≡ true }
+        ensures number { result ≡ vec_len self.old.nodes }
+        ensures after { (ss : Schemas) → store ss self.new
+            ≡ grown node more.now (store ss self.old) }
     {
-        self.memory.push(node, more)
+        let number = self.nodes.len() as u32;
+        append(&mut self.text, more);
+        self.nodes.push_reserved(node);
+        number
     }
 
-    /// The record of a new node, whose place in a refusal is 65,535.
-    fn draft(
+    /// What is to be recorded of a node over the first `count` of the children that adds so many bytes to the text.
+    pub(crate) fn draft<T: Typist>(
         &self,
-        function: NewFunction<'_>,
-        children: [u32; 8],
-        count: u8,
-    ) -> Result<Node, Refusal>
-        ensures { result ≡ drafted (H.Host.meaning self.now.host) self.now.schemas
-            self.now.memory (new_of function.entry) children count }
-    {
-        check_schema(&function)?;
-        let bound = self.bind(NEW_NODE, &function, children, count)?;
-        let span = self.memory.span_for(NEW_NODE, function.bytes().len())?;
-        Ok(bound.record(function.placed(span), children, count))
-    }
-
-    /// The type, the depth and the size of a node over the first `count` of the children.
-    pub(crate) fn bind(
-        &self,
+        typist: &T,
         place: u32,
         asked: &NewFunction<'_>,
         children: [u32; 8],
         count: u8,
-    ) -> Result<Bound, Refusal>
-        ensures { result ≡ bound_by (H.Host.meaning self.now.host)
-            (store self.now.schemas self.now.memory) place (new_of asked.now)
-            children count }
+        more: usize,
+    ) -> Result<Draft, Refusal>
+        ensures { result ≡ drafted (T.Typist.typing typist.now) self.now place
+            (new_of asked.now) children count more }
     {
         let kin = self.survey(children, count)?;
-        self.bind_over(place, asked, count, &kin)
+        self.draft_over(typist, place, asked, count, more, &kin)
     }
 
     /// The same over children that come to `kin`.
-    fn bind_over(
+    fn draft_over<T: Typist>(
         &self,
+        typist: &T,
         place: u32,
         asked: &NewFunction<'_>,
         count: u8,
+        more: usize,
         kin: &Kin,
-    ) -> Result<Bound, Refusal>
-        ensures { result ≡ bound_over (H.Host.meaning self.now.host)
-            (store self.now.schemas self.now.memory) place (new_of asked.now) count
-            kin.now }
+    ) -> Result<Draft, Refusal>
+        ensures { result ≡ drafted_over (T.Typist.typing typist.now) self.now place
+            (new_of asked.now) count more kin.now }
     {
-        self.check_count(place, asked, count)?;
-        let dtype = self.bound_type(place, asked, kin.types(count))?;
+        let dtype = typist.type_of(place, asked, count, kin.types(count))?;
         let depth = kin.depth_above(place)?;
         let size = kin.size_above(place)?;
-        Ok(Bound { dtype, depth, size })
+        let span = self.span_for(place, more)?;
+        Ok(Draft {
+            dtype,
+            depth,
+            size,
+            span,
+        })
     }
 }
 
-impl Bound {
-    /// The record of a node that was bound.
-    pub(crate) fn record(self, function: Function, children: [u32; 8], count: u8) -> Node
-        ensures { result ≡ noted function children count self }
+impl Draft {
+    /// The record of a node that was drafted.
+    pub(crate) fn record(&self, function: Function, children: [u32; 8], count: u8) -> Node
+        ensures { result ≡ noted function children count self.now }
     {
         Node::new(function, children, count, self.dtype, self.depth, self.size)
     }
 }
 
-/// Whether a Root is of a schema that there is.
-fn check_schema(asked: &NewFunction<'_>) -> Result<(), MemoryRefusal>
-    ensures { result ≡ schema_there (new_of asked.now) }
+/// Puts bytes behind a text that has room for them.
+fn append(text: &mut Vec<u8>, more: &[u8])
+    requires { vec_len text.old + length more.now ≤ vec_capacity text.old }
+    ensures items { text.new.items ≡ text.old.items ++ more.now }
+    ensures len { vec_len text.new ≡ vec_len text.old + length more.now }
+    ensures room { vec_capacity text.old ≤ vec_capacity text.new }
 {
-    match *asked {
-        NewFunction::Root(schema) if schema >= SCHEMAS => Err(MemoryRefusal::NoSuchSchema(schema)),
-        _ => Ok(()),
-    }
+    let _ = text.extend_from_slice(more);
 }

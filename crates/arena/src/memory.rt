@@ -1,4 +1,5 @@
-ghost use Rattle.std.specs.Prelude.{◌≤◌, vec_len, vec_capacity};
+ghost use Rattle.std.specs.Prelude.{◌≡◌, ◌≤◌, true, reverse, vec_len, vec_capacity};
+ghost use Rattle.arena.specs.Standing.{all_stand};
 
 use vocabulary::nodes::Node;
 
@@ -18,4 +19,5 @@ pub struct Memory {
     ghost addressed: { bytes ≤ 65536 },
     ghost roomy: { records ≤ vec_capacity nodes },
     ghost spacious: { bytes ≤ vec_capacity text },
+    ghost sound: { all_stand (vec_len text) (reverse nodes.items) ≡ true },
 }

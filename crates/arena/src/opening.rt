@@ -1,15 +1,16 @@
-ghost use Rattle.std.specs.Prelude.{◌≡◌, [], vec_len};
+ghost use Rattle.std.specs.Prelude.{◌≡◌, []};
 ghost use Rattle.model.specs.Stores.{empty};
-ghost use Rattle.arena.specs.Opened.{store};
+ghost use Rattle.arena.specs.Opened.{opened};
 
 use crate::arena::Arena;
 use crate::memory::Memory;
 use meaning::host::Host;
 use schemas::declaring::Declaring;
+use typing::binder::Binder;
 
 impl Memory {
     /// Lets go of all records and of the text, and keeps the room.
-    fn clear(&mut self)
+    pub(crate) fn clear(&mut self)
         ensures nodes { self.new.nodes.items ≡ [] }
         ensures text { self.new.text.items ≡ [] }
         ensures records { self.new.records ≡ self.old.records }
@@ -23,14 +24,16 @@ impl Memory {
 impl<H: Host> Arena<H> {
     /// Ends declaring: an arena without nodes over those schemas, with that host, in that memory.
     pub fn open(declaring: Declaring, host: H, mut memory: Memory) -> Arena<H>
-        ensures opened { store result.schemas result.memory
+        ensures opened { opened result.binder.schemas result.memory
             ≡ empty declaring memory.records memory.bytes }
-        ensures host { result.host ≡ host }
+        ensures host { result.binder.host ≡ host }
     {
         memory.clear();
         Arena {
-            schemas: declaring.finish(),
-            host,
+            binder: Binder {
+                schemas: declaring.finish(),
+                host,
+            },
             memory,
         }
     }

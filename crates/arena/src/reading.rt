@@ -4,11 +4,12 @@ ghost use Rattle.vocabulary.specs.declared.refusals.BindingRefusal.TheVariants.{
 ghost use Rattle.vocabulary.specs.declared.refusals.Refusal.TheVariants.{Binding};
 ghost use Rattle.vocabulary.specs.Nodes.{child_at, text_of};
 ghost use Rattle.meaning.specs.HostCode.{part};
-ghost use Rattle.arena.specs.Opened.{store};
+ghost use Rattle.arena.specs.Opened.{opened};
 ghost use Rattle.arena.specs.Reading.{of_node, read_bytes};
 
 use crate::arena::Arena;
 use meaning::host::Host;
+use schemas::tables::Schemas;
 use vocabulary::nodes::Node;
 use vocabulary::refusals::{BindingRefusal, Refusal};
 use vocabulary::types::DType;
@@ -16,34 +17,34 @@ use vocabulary::types::DType;
 impl<H: Host> Arena<H> {
     /// The record of a node.
     pub fn record(&self, node: u32) -> Result<Node, Refusal>
-        ensures { result ≡ of_node (store self.now.schemas self.now.memory) node
+        ensures { result ≡ of_node (opened self.now.binder.schemas self.now.memory) node
             (λ x. Ok x) }
     {
-        Ok(self.memory.node(node)?)
+        Ok(*self.memory.node(node)?)
     }
 
     /// The type of a node.
     pub fn dtype(&self, node: u32) -> Result<DType, Refusal>
-        ensures { result ≡ of_node (store self.now.schemas self.now.memory) node
+        ensures { result ≡ of_node (opened self.now.binder.schemas self.now.memory) node
             (λ x. Ok x.dtype) }
     {
-        Ok(self.record(node)?.dtype)
+        Ok(self.memory.node(node)?.dtype)
     }
 
     /// How many children a node has.
     pub fn child_count(&self, node: u32) -> Result<u8, Refusal>
-        ensures { result ≡ of_node (store self.now.schemas self.now.memory) node
+        ensures { result ≡ of_node (opened self.now.binder.schemas self.now.memory) node
             (λ x. Ok x.child_count) }
     {
-        Ok(self.record(node)?.child_count)
+        Ok(self.memory.node(node)?.child_count)
     }
 
     /// The child of a node at that position. Where there is none, the node has the wrong child count.
     pub fn child(&self, node: u32, position: u8) -> Result<u32, Refusal>
-        ensures { result ≡ of_node (store self.now.schemas self.now.memory) node
+        ensures { result ≡ of_node (opened self.now.binder.schemas self.now.memory) node
             (λ x. ok_or (child_at x position) (Binding (WrongChildCount node))) }
     {
-        match self.record(node)?.child(position) {
+        match self.memory.node(node)?.child(position) {
             Some(child) => Ok(child),
             None => Err(BindingRefusal::WrongChildCount(node).into()),
         }
@@ -51,13 +52,41 @@ impl<H: Host> Arena<H> {
 
     /// A literal's text or a name, by its bytes. Other nodes have none.
     pub fn text_of(&self, node: u32) -> Result<Option<&[u8]>, Refusal>
-        ensures { read_bytes result ≡ of_node (store self.now.schemas self.now.memory) node
-            (λ x. Ok (option_map (part (store self.now.schemas self.now.memory).text)
+        ensures { read_bytes result ≡ of_node (opened self.now.binder.schemas self.now.memory) node
+            (λ x. Ok (option_map (part (opened self.now.binder.schemas self.now.memory).text)
             (text_of x.function))) }
     {
-        match self.record(node)?.text() {
+        match self.memory.node(node)?.text() {
             Some(span) => Ok(Some(self.memory.text_at(span))),
             None => Ok(None),
         }
+    }
+
+    /// The records, each at its number.
+    pub fn nodes(&self) -> &[Node]
+        ensures { result.now ≡ self.now.memory.nodes.items }
+    {
+        self.memory.nodes.as_slice()
+    }
+
+    /// The text: names, and the texts of literals.
+    pub fn text(&self) -> &[u8]
+        ensures { result.now ≡ self.now.memory.text.items }
+    {
+        self.memory.text.as_slice()
+    }
+
+    /// The host that the arena was opened with.
+    pub fn host(&self) -> &H
+        ensures { result.now ≡ self.now.binder.host }
+    {
+        &self.binder.host
+    }
+
+    /// The schemas that were declared.
+    pub fn schemas(&self) -> &Schemas
+        ensures { result.now ≡ self.now.binder.schemas }
+    {
+        &self.binder.schemas
     }
 }

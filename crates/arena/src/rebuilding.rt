@@ -1,73 +1,45 @@
 ghost use Rattle.std.specs.Prelude.{◌≡◌, []};
 ghost use Rattle.vocabulary.specs.Types.{carried};
+ghost use Rattle.meaning.specs.Columns.{Schemas};
 ghost use Rattle.meaning.specs.HostCode.{read};
-ghost use Rattle.model.specs.Rebuilding.{with_children};
-ghost use Rattle.arena.specs.Asked.{new_of, value_of};
-ghost use Rattle.arena.specs.Drafting.{planned};
+ghost use Rattle.typing.specs.Asked.{new_of, value_of};
+ghost use Rattle.arena.specs.Building.{rebuild_by};
 ghost use Rattle.arena.specs.Opened.{store};
 ghost use Rattle.arena.specs.Rebuilding.{again, is_itself};
 
-use crate::arena::Arena;
-use crate::asking::{NewFunction, NewLiteral};
 use crate::memory::Memory;
-use meaning::host::Host;
 use meaning::texts::bytes_of;
+use typing::asking::{NewFunction, NewLiteral};
+use typing::typist::Typist;
 use vocabulary::nodes::{Function, Node};
 use vocabulary::refusals::Refusal;
 use vocabulary::types::Kind;
 use vocabulary::values::Value;
 
-impl<H: Host> Arena<H> {
+impl Memory {
     /// Makes a node of the same function, on the same text, over the first `count` of the children. A Root with no
     /// children is itself.
-    pub fn with_children(
+    pub(crate) fn rebuild<T: Typist>(
         &mut self,
+        typist: &T,
         node: u32,
         children: [u32; 8],
         count: u8,
     ) -> Result<u32, Refusal>
-        ensures answer { result ≡ (with_children (H.Host.meaning self.old.host) node children count
-            (store self.old.schemas self.old.memory)).0 }
-        ensures after { store self.new.schemas self.new.memory
-            ≡ (with_children (H.Host.meaning self.old.host) node children count
-            (store self.old.schemas self.old.memory)).1 }
-        ensures host { self.new.host ≡ self.old.host }
+        ensures answer { (ss : Schemas) → result ≡ (rebuild_by (T.Typist.typing typist.now) node
+            children count (store ss self.old)).0 }
+        ensures after { (ss : Schemas) → store ss self.new ≡ (rebuild_by
+            (T.Typist.typing typist.now) node children count (store ss self.old)).1 }
     {
-        self.rebuild(node, children, count)
-    }
-
-    /// The same, by a draft that is entered.
-    fn rebuild(&mut self, node: u32, children: [u32; 8], count: u8) -> Result<u32, Refusal>
-        ensures answer { result ≡ (with_children (H.Host.meaning self.old.host) node children count
-            (store self.old.schemas self.old.memory)).0 }
-        ensures after { store self.new.schemas self.new.memory
-            ≡ (with_children (H.Host.meaning self.old.host) node children count
-            (store self.old.schemas self.old.memory)).1 }
-        ensures host { self.new.host ≡ self.old.host }
-    {
-        let old = self.memory.node(node)?;
+        let old = *self.node(node)?;
         if is_itself(old.function, count) {
             return Ok(node);
         }
-        let anew = self.redraft(node, &old, children, count)?;
-        Ok(self.enter(anew, &[]))
+        let asked = self.asked_again(&old);
+        let draft = self.draft(typist, node, &asked, children, count, 0)?;
+        Ok(self.enter(draft.record(old.function, children, count), &[]))
     }
 
-    /// The record of a node over other children, whose place in a refusal is its own.
-    fn redraft(&self, node: u32, old: &Node, children: [u32; 8], count: u8) -> Result<Node, Refusal>
-        ensures { result ≡ planned (H.Host.meaning self.now.host) self.now.schemas
-            self.now.memory node
-            (again self.now.memory.text.items old.now.dtype old.now.function)
-            (λ _. old.now.function) 0 children count }
-    {
-        let asked = self.memory.asked_again(old);
-        let bound = self.bind(node, &asked, children, count)?;
-        self.memory.span_for(node, 0)?;
-        Ok(bound.record(old.function, children, count))
-    }
-}
-
-impl Memory {
     /// What the node was asked for, its text as it was recorded.
     fn asked_again(&self, node: &Node) -> NewFunction<'_>
         ensures { new_of result
@@ -90,14 +62,7 @@ impl Memory {
     fn literal_again(&self, value: Value) -> NewLiteral<'_>
         ensures { value_of result ≡ read self.now.text.items [] value }
     {
-        match value {
-            Value::Null => NewLiteral::Null,
-            Value::Bool(b) => NewLiteral::Bool(b),
-            Value::I64(x) => NewLiteral::I64(x),
-            Value::U64(x) => NewLiteral::U64(x),
-            Value::Utf8(text) => NewLiteral::Utf8(bytes_of(text, self.text.as_slice(), &[])),
-            Value::Extension(e, x) => NewLiteral::Extension(e, x),
-        }
+        value.map(|text| bytes_of(text, self.text.as_slice(), &[]))
     }
 }
 

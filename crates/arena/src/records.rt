@@ -1,5 +1,6 @@
 ghost use Rattle.std.specs.Prelude.{◌≡◌, reverse};
 ghost use Rattle.std.specs.Option.{ok_or};
+ghost use Rattle.std.specs.Result.{result_map_both};
 ghost use Rattle.vocabulary.specs.declared.refusals.MemoryRefusal.TheVariants.{NoSuchNode};
 ghost use Rattle.meaning.specs.HostCode.{part};
 ghost use Rattle.model.specs.Stores.{node_among};
@@ -12,13 +13,13 @@ use vocabulary::values::{Span, Text};
 
 impl Memory {
     /// The record of that number.
-    pub(crate) fn node(&self, number: u32) -> Result<Node, MemoryRefusal>
-        ensures { result ≡ ok_or (node_among (reverse self.now.nodes.items) number)
-            (NoSuchNode number) }
+    pub(crate) fn node(&self, number: u32) -> Result<&Node, MemoryRefusal>
+        ensures { result_map_both (λ x. x.now) (λ e. e) result
+            ≡ ok_or (node_among (reverse self.now.nodes.items) number) (NoSuchNode number) }
     {
         let at = number as usize;
         if at < self.nodes.len() {
-            Ok(self.nodes[at])
+            Ok(&self.nodes[at])
         } else {
             Err(MemoryRefusal::NoSuchNode(number))
         }

@@ -1,11 +1,10 @@
-ghost use Rattle.std.specs.Prelude.{◌≡◌, min, take};
+ghost use Rattle.std.specs.Prelude.{◌≡◌, min, [], take};
 ghost use Rattle.model.specs.Making.{looked_up, named};
 ghost use Rattle.arena.specs.Opened.{store};
 ghost use Rattle.arena.specs.Surveying.{surveyed, no_kin, deeper, larger};
 
-use crate::arena::Arena;
 use crate::bounds::Kin;
-use meaning::host::Host;
+use crate::memory::Memory;
 use vocabulary::nodes::MAX_CHILDREN;
 use vocabulary::refusals::{BindingRefusal, Refusal};
 use vocabulary::types::{DType, Kind};
@@ -16,11 +15,11 @@ pub const MAX_DEPTH: u16 = 256;
 /// The most nodes of a tree.
 pub const MAX_SIZE: u32 = 4096;
 
-impl<H: Host> Arena<H> {
+impl Memory {
     /// Looks at the first `count` of the children, at most eight, up to the first that is no node.
     pub(crate) fn survey(&self, children: [u32; 8], count: u8) -> Result<Kin, Refusal>
         ensures { result ≡ surveyed 0 no_kin
-            (looked_up (store self.now.schemas self.now.memory) (named children count)) }
+            (looked_up (store [] self.now) (named children count)) }
     {
         let mut kin = Kin {
             types: [DType::new(Kind::Bool, false); 8],
@@ -29,7 +28,7 @@ impl<H: Host> Arena<H> {
         };
         let used = count.min(MAX_CHILDREN) as usize;
         for i in 0..used {
-            let node = self.memory.node(children[i])?;
+            let node = self.node(children[i])?;
             kin.types[i] = node.dtype;
             kin.depth = kin.depth.max(node.depth);
             kin.size += node.size as u32;

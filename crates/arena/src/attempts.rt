@@ -1,0 +1,152 @@
+ghost use Rattle.std.specs.Prelude.{◌≡◌, vec_len};
+ghost use Rattle.model.specs.Making.{make};
+ghost use Rattle.model.specs.Rebuilding.{with_children};
+ghost use Rattle.typing.specs.Asked.{new_of};
+ghost use Rattle.arena.specs.Opened.{opened};
+ghost use Rattle.arena.specs.Trials.{taken_back};
+
+use crate::arena::Arena;
+use crate::attempt::Attempt;
+use meaning::host::Host;
+use typing::asking::NewFunction;
+use vocabulary::refusals::Refusal;
+
+impl<'a, H: Host> Attempt<'a, H> {
+    /// Nodes are made on trial from here.
+    pub fn begin(arena: &'a mut Arena<H>) -> Attempt<'a, H>
+        ensures same { result.arena.ghost_name ≡ arena.entry.ghost_name }
+        ensures arena { result.arena.now ≡ arena.old }
+        ensures nodes { result.nodes ≡ vec_len arena.old.memory.nodes }
+        ensures text { result.text ≡ vec_len arena.old.memory.text }
+    {
+        Attempt::mark(arena)
+    }
+
+    /// The arena with what was made on trial.
+    pub fn arena(&self) -> &Arena<H>
+        ensures { result.now ≡ self.now.arena.now }
+    {
+        &*self.arena
+    }
+
+    /// Makes a node on trial.
+    pub fn try_new(
+        &mut self,
+        function: NewFunction<'_>,
+        children: [u32; 8],
+        count: u8,
+    ) -> Result<u32, Refusal>
+        ensures answer { result ≡ (make (H.Host.meaning self.old.arena.now.binder.host)
+            (new_of function.entry) children count
+            (opened self.old.arena.now.binder.schemas self.old.arena.now.memory)).0 }
+        ensures after { opened self.new.arena.now.binder.schemas
+            self.new.arena.now.memory
+            ≡ (make (H.Host.meaning self.old.arena.now.binder.host) (new_of function.entry)
+            children count
+            (opened self.old.arena.now.binder.schemas self.old.arena.now.memory)).1 }
+        ensures binder { self.new.arena.now.binder ≡ self.old.arena.now.binder }
+        ensures same { self.new.arena.ghost_name ≡ self.old.arena.ghost_name }
+        ensures nodes { self.new.nodes ≡ self.old.nodes }
+        ensures text { self.new.text ≡ self.old.text }
+    {
+        self.make(function, children, count)
+    }
+
+    /// Makes a node on trial, of the function of another over other children.
+    pub fn with_children(
+        &mut self,
+        node: u32,
+        children: [u32; 8],
+        count: u8,
+    ) -> Result<u32, Refusal>
+        ensures answer { result ≡ (with_children (H.Host.meaning self.old.arena.now.binder.host)
+            node children count
+            (opened self.old.arena.now.binder.schemas self.old.arena.now.memory)).0 }
+        ensures after { opened self.new.arena.now.binder.schemas
+            self.new.arena.now.memory
+            ≡ (with_children (H.Host.meaning self.old.arena.now.binder.host) node
+            children count
+            (opened self.old.arena.now.binder.schemas self.old.arena.now.memory)).1 }
+        ensures binder { self.new.arena.now.binder ≡ self.old.arena.now.binder }
+        ensures same { self.new.arena.ghost_name ≡ self.old.arena.ghost_name }
+        ensures nodes { self.new.nodes ≡ self.old.nodes }
+        ensures text { self.new.text ≡ self.old.text }
+    {
+        self.rebuild(node, children, count)
+    }
+
+    /// Leaves what was made.
+    pub fn keep(self)
+        ensures { self.exit.0.now ≡ self.entry.arena.now }
+    {
+        let Attempt {
+            arena: _,
+            nodes: _,
+            text: _,
+        } = self;
+    }
+
+    /// Takes back what was made.
+    pub fn take_back(self)
+        ensures after { opened self.exit.0.now.binder.schemas self.exit.0.now.memory
+            ≡ taken_back self.entry.nodes self.entry.text
+            (opened self.entry.arena.now.binder.schemas self.entry.arena.now.memory) }
+        ensures binder { self.exit.0.now.binder ≡ self.entry.arena.now.binder }
+    {
+        let Attempt { arena, nodes, text } = self;
+        arena.memory.cut(nodes, text);
+    }
+
+    /// Notes how much there is.
+    fn mark(arena: &'a mut Arena<H>) -> Attempt<'a, H>
+        ensures same { result.arena.ghost_name ≡ arena.entry.ghost_name }
+        ensures arena { result.arena.now ≡ arena.old }
+        ensures nodes { result.nodes ≡ vec_len arena.old.memory.nodes }
+        ensures text { result.text ≡ vec_len arena.old.memory.text }
+    {
+        let nodes = arena.memory.nodes.len();
+        let text = arena.memory.text.len();
+        Attempt { arena, nodes, text }
+    }
+
+    /// Making: what was there before stays in front.
+    fn make(
+        &mut self,
+        function: NewFunction<'_>,
+        children: [u32; 8],
+        count: u8,
+    ) -> Result<u32, Refusal>
+        ensures answer { result ≡ (make (H.Host.meaning self.old.arena.now.binder.host)
+            (new_of function.entry) children count
+            (opened self.old.arena.now.binder.schemas self.old.arena.now.memory)).0 }
+        ensures after { opened self.new.arena.now.binder.schemas
+            self.new.arena.now.memory
+            ≡ (make (H.Host.meaning self.old.arena.now.binder.host) (new_of function.entry)
+            children count
+            (opened self.old.arena.now.binder.schemas self.old.arena.now.memory)).1 }
+        ensures binder { self.new.arena.now.binder ≡ self.old.arena.now.binder }
+        ensures same { self.new.arena.ghost_name ≡ self.old.arena.ghost_name }
+        ensures nodes { self.new.nodes ≡ self.old.nodes }
+        ensures text { self.new.text ≡ self.old.text }
+    {
+        self.arena.try_new(function, children, count)
+    }
+
+    /// Rebuilding: what was there before stays in front.
+    fn rebuild(&mut self, node: u32, children: [u32; 8], count: u8) -> Result<u32, Refusal>
+        ensures answer { result ≡ (with_children (H.Host.meaning self.old.arena.now.binder.host)
+            node children count
+            (opened self.old.arena.now.binder.schemas self.old.arena.now.memory)).0 }
+        ensures after { opened self.new.arena.now.binder.schemas
+            self.new.arena.now.memory
+            ≡ (with_children (H.Host.meaning self.old.arena.now.binder.host) node
+            children count
+            (opened self.old.arena.now.binder.schemas self.old.arena.now.memory)).1 }
+        ensures binder { self.new.arena.now.binder ≡ self.old.arena.now.binder }
+        ensures same { self.new.arena.ghost_name ≡ self.old.arena.ghost_name }
+        ensures nodes { self.new.nodes ≡ self.old.nodes }
+        ensures text { self.new.text ≡ self.old.text }
+    {
+        self.arena.with_children(node, children, count)
+    }
+}
