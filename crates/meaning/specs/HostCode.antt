@@ -10,7 +10,6 @@ use Rattle.meaning.specs.declared.answers.Constant.{Constant as CodeConstant}
 use Rattle.meaning.specs.declared.answers.Constant.TheVariants as made
 use Rattle.meaning.specs.declared.answers.Reply.{Reply as CodeReply}
 use Rattle.meaning.specs.declared.answers.Reply.TheVariants as replied
-use Rattle.meaning.specs.declared.answers.Places.{Places}
 use Rattle.meaning.specs.declared.answers.RuleAnswer.{RuleAnswer}
 use Rattle.meaning.specs.declared.answers.RuleAnswer.TheVariants as answered
 use Rattle.meaning.specs.Values.{Value, null, bool, signed, unsigned, text, ext}
@@ -56,13 +55,9 @@ reply_of (replied.Argument i) = argument i
 reply_of (replied.Plain k) = plain (constant_of k)
 reply_of (replied.Fails c) = fails c
 
--- the children's places that a rule names, in order
-abbrev pub places_of : Places → List ℕ
-places_of p = take p.count p.places
-
 -- what a rule answered
 abbrev pub answer_of : RuleAnswer → Answer
 answer_of answered.Nothing = nothing
 answer_of (answered.Child i) = child i
 answer_of (answered.Constant k) = constant (constant_of k)
-answer_of (answered.Other c p) = other c (places_of p)
+answer_of (answered.Other c p) = other c (take p.count p.places)

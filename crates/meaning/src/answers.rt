@@ -1,6 +1,8 @@
 ghost use Rattle.std.specs.Prelude.{◌≡◌, take};
 ghost use Rattle.meaning.specs.Hosts.{Answer};
-ghost use Rattle.meaning.specs.HostCode.{constant_of, places_of, answer_of};
+ghost use Rattle.meaning.specs.HostCode.{constant_of, answer_of};
+
+use crate::places::Places;
 
 /// A value that a host can make of itself: null, or any that is no text.
 // Kept beside `Value`: one type for both, with an empty type in place of the text, is no plainer.
@@ -23,36 +25,6 @@ pub enum Reply {
     Plain(Constant),
     /// A fault, by a code that the host chooses.
     Fails(u16),
-}
-
-/// The places of some children, counted from 0: at most eight, since memory is fixed.
-#[derive(Clone, Copy)]
-pub struct Places {
-    places: [u8; 8],
-    count: u8,
-}
-
-impl Places {
-    /// The first eight of the places.
-    pub fn new(places: &[u8]) -> Places
-        ensures { places_of result ≡ take 8 places.now }
-    {
-        let count = places.len().min(8);
-        let mut kept = [0; 8];
-        kept[..count].copy_from_slice(&places[..count]);
-        Places {
-            places: kept,
-            count: count as u8,
-        }
-    }
-
-    /// The places in their order.
-    pub fn as_slice(&self) -> &[u8]
-        ensures { result.now ≡ places_of self.now }
-    {
-        let count = self.places.len().min(self.count as usize);
-        &self.places[..count]
-    }
 }
 
 /// What the rule of a function answers.

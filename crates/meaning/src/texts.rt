@@ -23,11 +23,10 @@ impl<'a> Texts<'a> {
 }
 
 /// The bytes of that part of one text, as far as they go.
-#[tactic(auto, using(crate::proofs::Cuts::part_cut))]
+#[tactic(auto, using(std::proofs::lemmas::List::take_min, std::proofs::lemmas::List::drop_min))]
 pub fn part_of(bytes: &[u8], span: Span) -> &[u8]
     ensures { result.now ≡ part bytes.now span }
 {
-    let start = bytes.len().min(span.start as usize);
-    let end = bytes.len().min(start + span.len as usize);
-    &bytes[start..end]
+    let rest = &bytes[bytes.len().min(span.start as usize)..];
+    &rest[..rest.len().min(span.len as usize)]
 }
