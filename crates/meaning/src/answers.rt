@@ -37,7 +37,7 @@ pub enum RuleAnswer {
     /// A literal of that value, of the call's type, replaces the call.
     Constant(Constant),
     /// A call of the function of that code, over the children at those places, replaces the call.
-    Other(u16, Places),
+    Other { code: u16, places: Places },
 }
 
 // Kept beside the variants: hosts of customers call these, and the contracts say what each variant means.
@@ -68,6 +68,9 @@ impl RuleAnswer {
     pub fn other(code: u16, places: &[u8]) -> RuleAnswer
         ensures { answer_of result ≡ Answer.other code (take 8 places.now) }
     {
-        RuleAnswer::Other(code, Places::new(places))
+        RuleAnswer::Other {
+            code,
+            places: Places::new(places),
+        }
     }
 }
