@@ -5,7 +5,6 @@ ghost use Rattle.schemas.specs.Tables.{fields_of};
 
 use crate::column::Column;
 use crate::tables::Schema;
-use vocabulary::texts::same_bytes;
 use vocabulary::types::DType;
 
 impl Column {
@@ -21,7 +20,7 @@ impl Column {
     pub fn is_named(&self, name: &[u8]) -> bool
         ensures { result ≡ bytes_eq (field_of self.now).name name.now }
     {
-        same_bytes(self.name(), name)
+        self.name() == name
     }
 
     /// Its type.
