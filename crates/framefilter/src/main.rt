@@ -36,7 +36,7 @@ fn carry_out(declaring: &mut Declaring, line: &[u8]) -> Result<(), BadLine> {
     }
 }
 
-fn print_schema(rt: &HostRuntime, schemas: &Schemas) -> io::Result<()> {
+fn print_schema(rt: &impl Print, schemas: &Schemas) -> io::Result<()> {
     let Ok(schema) = schemas.schema(CHANNEL) else {
         return Ok(());
     };

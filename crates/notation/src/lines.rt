@@ -3,7 +3,7 @@ ghost use Rattle.std.specs.Result.{MatchResult, result_map_both};
 ghost use Rattle.notation.specs.Lines.{said, mistaken, column_line, directive_named, line_said};
 ghost use Rattle.notation.specs.Words.{after_blanks, word, after_word};
 
-use crate::line::*;
+use crate::line::{Complaint, Directive, Line, Mistake};
 use crate::type_names::read_type;
 use crate::words::{after_blanks, split_word};
 

@@ -5,7 +5,7 @@ ghost use Rattle.notation.specs.Words.{is_blank, after_blanks, word_length, word
 pub(crate) fn is_blank(byte: u8) -> bool
     ensures { result ≡ is_blank byte }
 {
-    byte == b' ' || byte == b'\t' || byte == b'\r'
+    matches!(byte, b' ' | b'\t' | b'\r')
 }
 
 /// The text without the blanks in front.
