@@ -1,4 +1,5 @@
-ghost use Rattle.std.specs.Prelude.{◌≡◌};
+ghost use Rattle.std.specs.Prelude.{◌≡◌, Some};
+ghost use Rattle.vocabulary.specs.Printed.{layer_name};
 ghost use Rattle.vocabulary.specs.declared.refusals.Refusal.TheVariants.{Memory, Binding, Walk, Rules, Evaluation};
 ghost use Rattle.vocabulary.specs.Refusals.{number_of, layer_of, place_of};
 
@@ -286,6 +287,8 @@ impl Refusal {
 }
 
 impl fmt::Display for Layer {
+    ghost output = { λ l. Some (layer_name l) };
+
     fn fmt<W: fmt::Write>(&self, f: &mut fmt::Formatter<W>) -> fmt::Result {
         match self {
             Layer::Memory => write!(f, "memory"),

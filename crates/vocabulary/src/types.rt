@@ -1,4 +1,5 @@
-ghost use Rattle.std.specs.Prelude.{◌≡◌};
+ghost use Rattle.std.specs.Prelude.{◌≡◌, Some};
+ghost use Rattle.vocabulary.specs.Printed.{kind_name, type_name};
 ghost use Rattle.vocabulary.specs.Types.{alike, type_of, is_plain};
 
 use std::fmt;
@@ -71,6 +72,8 @@ impl DType {
 
 /// Its name, with the number that it carries in brackets.
 impl fmt::Display for Kind {
+    ghost output = { λ k. Some (kind_name k) };
+
     fn fmt<W: fmt::Write>(&self, f: &mut fmt::Formatter<W>) -> fmt::Result {
         match self {
             Kind::Bool => write!(f, "Bool"),
@@ -85,6 +88,8 @@ impl fmt::Display for Kind {
 
 /// Its kind, and a question mark behind it if it is nullable.
 impl fmt::Display for DType {
+    ghost output = { λ t. Some (type_name t) };
+
     fn fmt<W: fmt::Write>(&self, f: &mut fmt::Formatter<W>) -> fmt::Result {
         let kind = self.kind;
         let mark = if self.nullable { "?" } else { "" };
