@@ -4,7 +4,6 @@ ghost use Rattle.schemas.specs.Declarations.{declared};
 
 use crate::column::Column;
 use crate::tables::Schema;
-use vocabulary::texts::same_bytes;
 use vocabulary::types::DType;
 
 impl Column {
@@ -20,7 +19,7 @@ impl Column {
     pub fn is_named(&self, name: &[u8]) -> bool
         ensures { result ≡ bytes_eq self.now.name name.now }
     {
-        same_bytes(self.name(), name)
+        self.name() == name
     }
 
     /// Its type.
