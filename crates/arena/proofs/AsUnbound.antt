@@ -6,14 +6,15 @@ use Rattle.std.proofs.lemmas.Bool.{and_parts, and_from, eqb-true}
 use Rattle.std.specs.Option.{option_map}
 use Rattle.vocabulary.specs.declared.nodes.Function.{Function}
 use Rattle.vocabulary.specs.declared.nodes.Function.TheVariants.{Root, Literal, GetItem, Cast, Binary, Between, Host}
-use Rattle.vocabulary.specs.declared.nodes.Node.{Node}
+use Rattle.vocabulary.specs.Nodes.{BoundNode as Node}
 use Rattle.vocabulary.specs.declared.refusals.BindingRefusal.TheVariants.{WrongChildCount}
 use Rattle.vocabulary.specs.declared.refusals.Refusal.{Refusal}
 use Rattle.vocabulary.specs.declared.refusals.Refusal.TheVariants.{Binding}
 use Rattle.vocabulary.specs.declared.types.DType.{DType}
 use Rattle.vocabulary.specs.declared.types.Kind.{Kind}
 use Rattle.vocabulary.specs.declared.types.Kind.TheVariants as kind
-use Rattle.model.specs.Unbound.{UnboundNode, untyped, UnboundStore, unbound_among, rows, seen, against}
+use Rattle.vocabulary.specs.Nodes.{UnboundNode, untyped}
+use Rattle.model.specs.Unbound.{UnboundStore, rows, seen, against}
 use Rattle.meaning.proofs.CaseSplits.{none_some, some_same, false_true}
 use Rattle.model.specs.BindingTrees.{plan_at}
 use Rattle.model.specs.Making.{Plan, named, looked_up, check, sized, types_of, entered, head_counts, new_record}
@@ -165,16 +166,16 @@ stays_loose place w p bs s e =
         (typed xs (asked_counts any_host w p.count))
 
 -- the record of a number without its type
-pub among_untyped : (xs : List Node) (k : ℕ) → unbound_among (map untyped xs) k ≡ option_map untyped (node_among xs k)
-unfolding node_among unbound_among
+pub among_untyped : (xs : List Node) (k : ℕ) → node_among (map untyped xs) k ≡ option_map untyped (node_among xs k)
+unfolding node_among
 among_untyped [] k = refl
 among_untyped (x ∷ xs) k =
-    ap (λ (n : ℕ). cond (eqb k n) (Some (untyped x)) (unbound_among (map untyped xs) k)) (length-map xs untyped)
+    ap (λ (n : ℕ). cond (eqb k n) (Some (untyped x)) (node_among (map untyped xs) k)) (length-map xs untyped)
     ∙ go (among_untyped xs k) (eqb k (length xs))
   where
-    go : unbound_among (map untyped xs) k ≡ option_map untyped (node_among xs k)
+    go : node_among (map untyped xs) k ≡ option_map untyped (node_among xs k)
         → (b : Bool)
-        → cond b (Some (untyped x)) (unbound_among (map untyped xs) k)
+        → cond b (Some (untyped x)) (node_among (map untyped xs) k)
         ≡ option_map untyped (cond b (Some x) (node_among xs k))
     go f true = refl
     go f false = f

@@ -3,7 +3,7 @@ use Rattle.std.proofs.Common.{◌≡◌, ℕ, suc, ◌+◌, ◌≤◌, min, Bool
 use Rattle.std.proofs.Common.{Ok, Err, vec_items, vec_len, Result, sym, refl, ap, ◌∙◌, add-one, arith, length-take}
 use Rattle.std.proofs.lemmas.List.{length-reverse}
 use Rattle.vocabulary.specs.declared.nodes.Function.{Function}
-use Rattle.vocabulary.specs.declared.nodes.Node.{Node}
+use Rattle.vocabulary.specs.Nodes.{BoundNode as Node}
 use Rattle.vocabulary.specs.declared.refusals.BindingRefusal.{BindingRefusal}
 use Rattle.vocabulary.specs.declared.refusals.BindingRefusal.TheVariants.{TooDeep, TooLarge}
 use Rattle.vocabulary.specs.declared.refusals.MemoryRefusal.{MemoryRefusal}

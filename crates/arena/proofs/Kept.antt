@@ -2,7 +2,7 @@
 use Rattle.std.proofs.Common.{◌≡◌, ℕ, ◌≤◌, true, List, ◌++◌, reverse, length, take, vec_items, vec_len, sym, refl, ap}
 use Rattle.std.proofs.Common.{◌∙◌, subst, arith, length-append, length-take}
 use Rattle.std.proofs.lemmas.List.{reverse-append, reverse-reverse, length-reverse, take-append-le, take_all}
-use Rattle.vocabulary.specs.declared.nodes.Node.{Node}
+use Rattle.vocabulary.specs.Nodes.{BoundNode as Node}
 use Rattle.meaning.specs.Columns.{Schemas}
 use Rattle.model.specs.LawsOfMaking.{Grows}
 use Rattle.model.specs.Stores.{Store}

@@ -1,7 +1,7 @@
 -- A node that is drafted is the one that making comes to.
 use Rattle.std.proofs.Common.{◌≡◌, ℕ, ◌+◌, ◌≤◌, min, true, List, ◌++◌, length, Ok, vec_len, sym, ap, ◌∙◌, subst}
 use Rattle.std.proofs.Common.{length-append}
-use Rattle.vocabulary.specs.declared.nodes.Node.{Node}
+use Rattle.vocabulary.specs.Nodes.{BoundNode as Node}
 use Rattle.vocabulary.specs.Nodes.{text_of}
 use Rattle.meaning.specs.Columns.{Schemas}
 use Rattle.model.specs.BindingTrees.{plan_at}

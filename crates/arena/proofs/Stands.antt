@@ -5,7 +5,7 @@ use Rattle.std.proofs.Common.{sym, refl, ap, ◌∙◌, subst, arith, take, drop
 use Rattle.std.proofs.Common.{length-take}
 use Rattle.std.proofs.lemmas.List.{reverse-append, take_at, length-take-le}
 use Rattle.std.proofs.lemmas.Bool.{and_parts, and_from, leb-true, ltb-true, le-leb, eq-eqb, eqb-true}
-use Rattle.vocabulary.specs.declared.nodes.Node.{Node}
+use Rattle.vocabulary.specs.Nodes.{BoundNode as Node}
 use Rattle.vocabulary.specs.declared.refusals.BindingRefusal.{BindingRefusal}
 use Rattle.vocabulary.specs.declared.types.DType.{DType}
 use Rattle.vocabulary.specs.declared.values.Span.{Span}

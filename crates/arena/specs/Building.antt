@@ -1,6 +1,6 @@
 -- Making and rebuilding nodes in the way that bound and unbound arenas share: types are left to a typist.
 use Rattle.std.specs.Prelude.{ℕ, List, [], Some, None, Ok, Err, Option, Result}
-use Rattle.vocabulary.specs.declared.nodes.Node.{Node}
+use Rattle.vocabulary.specs.Nodes.{BoundNode as Node}
 use Rattle.vocabulary.specs.declared.refusals.BindingRefusal.{BindingRefusal}
 use Rattle.vocabulary.specs.declared.refusals.MemoryRefusal.TheVariants.{NoSuchNode}
 use Rattle.vocabulary.specs.declared.refusals.Refusal.{Refusal}

@@ -1,7 +1,7 @@
 -- The record of a node that is asked for, check by check in the order of the refusals' numbers.
 use Rattle.std.specs.Prelude.{ℕ, List, [], take, Ok, Err, Result}
 use Rattle.vocabulary.specs.declared.nodes.Function.{Function}
-use Rattle.vocabulary.specs.declared.nodes.Node.{Node}
+use Rattle.vocabulary.specs.Nodes.{BoundNode as Node}
 use Rattle.vocabulary.specs.declared.refusals.BindingRefusal.{BindingRefusal}
 use Rattle.vocabulary.specs.declared.refusals.MemoryRefusal.{MemoryRefusal}
 use Rattle.vocabulary.specs.declared.refusals.Refusal.{Refusal}

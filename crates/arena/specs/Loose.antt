@@ -1,11 +1,11 @@
 -- Unbound nodes in the memory that bound ones have, each with a type that nothing reads.
 use Rattle.std.specs.Prelude.{Bool, true, false, not, ◌&&◌, List, [], ◌∷◌, map, ◌==◌}
-use Rattle.vocabulary.specs.declared.nodes.Node.{Node}
+use Rattle.vocabulary.specs.Nodes.{BoundNode as Node}
 use Rattle.vocabulary.specs.declared.types.Kind.{Kind}
 use Rattle.vocabulary.specs.declared.types.Kind.TheVariants as kind
-use Rattle.vocabulary.specs.declared.unbound.UnboundNode.{UnboundNode as Record}
 use Rattle.model.specs.Stores.{Store}
-use Rattle.model.specs.Unbound.{UnboundNode, UnboundStore, untyped}
+use Rattle.vocabulary.specs.Nodes.{untyped}
+use Rattle.model.specs.Unbound.{UnboundStore}
 
 -- the kind that every unbound node is written down with
 abbrev pub is_filler : Kind → Bool
@@ -24,13 +24,3 @@ all_loose (x ∷ xs) = (is_filler x.dtype.kind && not x.dtype.nullable) && all_l
 -- a store without its types
 abbrev pub loosened : Store → UnboundStore
 loosened s = record { nodes = map untyped s.nodes; text = s.text; records = s.records; bytes = s.bytes }
-
--- the record of an unbound node as the model has it
-abbrev pub as_record : Record → UnboundNode
-as_record x = record {
-  function = x.function;
-  children = x.children;
-  child_count = x.child_count;
-  depth = x.depth;
-  size = x.size;
-}

@@ -1,7 +1,6 @@
 -- An arena's parts as the value that its calls are defined on.
 use Rattle.std.specs.Prelude.{reverse, vec_items}
 use Rattle.schemas.specs.declared.tables.Schemas.{Schemas as Declared}
-use Rattle.schemas.specs.Tables.{all_fields}
 use Rattle.meaning.specs.Columns.{Schemas}
 use Rattle.model.specs.Stores.{Store}
 use Rattle.arena.specs.declared.memory.Memory.{Memory}
@@ -18,4 +17,4 @@ store ss m = record {
 
 -- the same over the schemas that were declared
 abbrev pub opened : Declared → Memory → Store
-opened ss m = store (all_fields ss) m
+opened ss m = store ss m

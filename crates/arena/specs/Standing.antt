@@ -1,7 +1,7 @@
 -- What holds of the records of an arena, whatever its host and its schemas.
 use Rattle.std.specs.Prelude.{ℕ, suc, Bool, true, false, ◌&&◌, List, [], ◌∷◌, length, Some, None, Ok, Err, Option}
 use Rattle.std.specs.Prelude.{Result, ◌==◌, nat_le}
-use Rattle.vocabulary.specs.declared.nodes.Node.{Node}
+use Rattle.vocabulary.specs.Nodes.{BoundNode as Node}
 use Rattle.vocabulary.specs.declared.values.Span.{Span}
 use Rattle.vocabulary.specs.Nodes.{text_of}
 use Rattle.vocabulary.specs.Values.{is_within}

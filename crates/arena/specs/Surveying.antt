@@ -1,6 +1,6 @@
 -- What the children of a node come to, one after another.
 use Rattle.std.specs.Prelude.{ℕ, ◌+◌, max, false, cond, List, [], ◌∷◌, replicate, Ok, Err, Result, nat_lt, slice_set}
-use Rattle.vocabulary.specs.declared.nodes.Node.{Node}
+use Rattle.vocabulary.specs.Nodes.{BoundNode as Node}
 use Rattle.vocabulary.specs.declared.refusals.BindingRefusal.{BindingRefusal}
 use Rattle.vocabulary.specs.declared.refusals.BindingRefusal.TheVariants.{TooDeep, TooLarge}
 use Rattle.vocabulary.specs.declared.refusals.MemoryRefusal.TheVariants.{NoSuchNode}

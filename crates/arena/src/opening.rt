@@ -1,5 +1,4 @@
 ghost use Rattle.std.specs.Prelude.{◌≡◌, []};
-ghost use Rattle.schemas.specs.Tables.{all_fields};
 ghost use Rattle.model.specs.Stores.{empty};
 ghost use Rattle.arena.specs.Opened.{opened};
 
@@ -26,7 +25,7 @@ impl<H: Host> Arena<H> {
     /// Ends declaring: an arena without nodes over those schemas, with that host, in that memory.
     pub fn open(declaring: Declaring, host: H, mut memory: Memory) -> Arena<H>
         ensures opened { opened result.binder.schemas result.memory
-            ≡ empty (all_fields declaring.schemas) memory.records memory.bytes }
+            ≡ empty declaring memory.records memory.bytes }
         ensures host { result.binder.host ≡ host }
     {
         memory.clear();

@@ -9,7 +9,7 @@ ghost use Rattle.arena.specs.Opened.{store};
 ghost use Rattle.arena.specs.Rebuilding.{again, is_itself};
 
 use crate::memory::Memory;
-use meaning::texts::bytes_of;
+use meaning::texts::Texts;
 use typing::asking::{NewFunction, NewLiteral};
 use typing::typist::Typist;
 use vocabulary::nodes::{Function, Node};
@@ -79,14 +79,13 @@ impl Memory {
     fn literal_again(&self, value: Value) -> NewLiteral<'_>
         ensures { value_of result ≡ read self.now.text.items [] value }
     {
-        match value {
-            Value::Null => NewLiteral::Null,
-            Value::Bool(b) => NewLiteral::Bool(b),
-            Value::I64(x) => NewLiteral::I64(x),
-            Value::U64(x) => NewLiteral::U64(x),
-            Value::Utf8(text) => NewLiteral::Utf8(bytes_of(text, self.text.as_slice(), &[])),
-            Value::Extension(e, x) => NewLiteral::Extension(e, x),
-        }
+        value.map(|text| {
+            let texts = Texts {
+                arena: self.text.as_slice(),
+                row: &[],
+            };
+            texts.bytes_of(text)
+        })
     }
 }
 

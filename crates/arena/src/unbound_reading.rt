@@ -6,19 +6,18 @@ ghost use Rattle.vocabulary.specs.declared.refusals.MemoryRefusal.TheVariants.{N
 ghost use Rattle.vocabulary.specs.declared.refusals.Refusal.TheVariants.{Binding};
 ghost use Rattle.vocabulary.specs.Nodes.{child_at, text_of};
 ghost use Rattle.meaning.specs.HostCode.{part};
-ghost use Rattle.model.specs.Unbound.{unbound_at, seen, untyped};
-ghost use Rattle.arena.specs.Loose.{as_record};
+ghost use Rattle.vocabulary.specs.Nodes.{untyped};
+ghost use Rattle.model.specs.Unbound.{unbound_at};
 ghost use Rattle.arena.specs.Reading.{of_unbound, read_bytes};
 
 use crate::unbound::UnboundArena;
-use vocabulary::nodes::Node;
+use vocabulary::nodes::{Node, UnboundNode};
 use vocabulary::refusals::{BindingRefusal, MemoryRefusal, Refusal};
-use vocabulary::unbound::UnboundNode;
 
 impl UnboundArena {
     /// The record of a node.
     pub fn record(&self, node: u32) -> Result<UnboundNode, Refusal>
-        ensures { both as_record (λ e. e) result ≡ of_unbound self.now node (λ x. Ok x) }
+        ensures { result ≡ of_unbound self.now node (λ x. Ok x) }
     {
         Ok(self.node(node)?.untyped())
     }
@@ -33,7 +32,7 @@ impl UnboundArena {
     /// The child of a node at that position. Where there is none, the node has the wrong child count.
     pub fn child(&self, node: u32, position: u8) -> Result<u32, Refusal>
         ensures { result ≡ of_unbound self.now node
-            (λ x. ok_or (child_at (seen 0 x) position) (Binding (WrongChildCount node))) }
+            (λ x. ok_or (child_at x position) (Binding (WrongChildCount node))) }
     {
         match self.node(node)?.child(position) {
             Some(child) => Ok(child),

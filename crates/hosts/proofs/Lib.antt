@@ -1,4 +1,2 @@
-mod Reading
-mod Every
 mod Replies
 mod Fronts

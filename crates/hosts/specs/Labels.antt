@@ -7,6 +7,7 @@ use Rattle.vocabulary.specs.Types.{same_kind, type_of}
 use Rattle.meaning.specs.Lists.{of_one, of_two}
 use Rattle.meaning.specs.Values.{Value, null, bool, signed, unsigned, text, ext, whole}
 use Rattle.meaning.specs.Hosts.{Constant, Reply, plain, fails, Answer, nothing, Meaning}
+use Rattle.hosts.specs.Kinds.{kind_to_kind}
 use Rattle.hosts.specs.declared.labels.LabelFunction.{LabelFunction}
 use Rattle.hosts.specs.declared.labels.LabelFunction.TheVariants.{Length, StartsWith}
 
@@ -22,7 +23,7 @@ labels_takes None n = false
 
 -- the length of a Utf8 is a U64, nullable where its argument is
 abbrev pub length_type : DType → Option DType
-length_type t = cond (same_kind t.kind kind.Utf8) (Some (type_of kind.U64 t.nullable)) None
+length_type t = kind_to_kind kind.Utf8 kind.U64 t
 
 -- the test of two Utf8 is a Bool, nullable where an argument is
 abbrev pub starts_type : DType → DType → Option DType

@@ -3,11 +3,10 @@ use Rattle.std.specs.Prelude.{◌≡◌, ℕ, suc, ◌+◌, ◌<◌, Bool, true,
 use Rattle.std.specs.Prelude.{Some, None, Option, ◌≢◌, nat_le, refl}
 use Rattle.std.proofs.Common.{ap, sym, subst, ◌∙◌, arith, add-zero}
 use Rattle.std.proofs.lemmas.Bool.{and_parts, le-leb, cond-true}
-use Rattle.std.proofs.lemmas.Bool.Decides.{nat_tests}
 use Rattle.vocabulary.specs.declared.types.DType.{DType}
 use Rattle.vocabulary.specs.declared.types.Kind.{Kind}
 use Rattle.vocabulary.specs.declared.types.Kind.TheVariants as kind
-use Rattle.vocabulary.specs.Types.{plain_kind, same_kind, type_of}
+use Rattle.vocabulary.specs.Types.{plain_kind, type_of}
 use Rattle.meaning.specs.Outcomes.{value, host, settled}
 use Rattle.meaning.specs.Lists.{nth}
 use Rattle.meaning.specs.Values.{Value, is_null, fits, all_fit}
@@ -19,8 +18,10 @@ use Rattle.hosts.specs.declared.numbers.NumberFunction.TheVariants.{Abs, Coalesc
 use Rattle.hosts.specs.Numbers.{numbers, number_function, numbers_takes, numbers_types, numbers_gives, numbers_rule}
 use Rattle.hosts.specs.Numbers.{abs_type, abs_reply, all_alike, all_nullable, coalesce_type}
 use Rattle.hosts.specs.Numbers.{first_given, coalesced, CoalesceIsTheFirst}
-use Rattle.hosts.specs.Tools.{none_some, fault_value, fails_argument, value_same}
-use Rattle.hosts.specs.Tools.{cond_some, some_under, one_some, fit_nil, fit_cons, fit_one, null_fits, plain_type}
+use Rattle.hosts.specs.Tools.{fails_argument, cond_some, plain_type}
+use Rattle.std.proofs.lemmas.Option.{cond_some as some_under}
+use Rattle.meaning.proofs.CaseSplits.{none_some, fault_value, value_same, of_one_some}
+use Rattle.meaning.proofs.FitsTypes.{fit_nil, fit_cons, fit_one, null_fits, one_kind}
 
 -- a null goes on to the next, another value is the first
 one_given : (ws vs : List Value) (i : ℕ) (v : Value) (b : Bool)
@@ -64,9 +65,6 @@ first_fits : (k : Kind) (n i : Bool) (v w : Value) (b : Bool) → is_null v ≡ 
 first_fits k n i v w true e p q = rw (null_fits v (record { kind = k; nullable = n }) e p) q
 first_fits k n i v w false e p q = solid_fits v k n (n && i) e p
 
-one_kind : (k l : Kind) → same_kind k l ≡ true → k ≡ l
-one_kind k l p = grind (arith, nat_tests)
-
 -- values of types alike t
 rest_fits : (t : DType) (ts : List DType) (vs : List Value) → all_alike t ts ≡ true → all_fit vs ts ≡ true
     → fits (coalesced vs) (record { kind = t.kind; nullable = all_nullable ts }) ≡ true
@@ -101,7 +99,7 @@ typed f ts =
 abs_typed : (ts : List DType) (t : DType) → typed (Some Abs) ts ≡ Some t
     → (u : DType) × (ts ≡ u ∷ []) × (type_of kind.I64 u.nullable ≡ t)
 abs_typed ts t p =
-    let (u, e, g) = one_some abs_type ts t (cond_some _ _ _ p).1 in
+    let (u, e, g) = of_one_some abs_type ts t (cond_some _ _ _ p).1 in
     (u, e, (some_under _ _ _ g).1)
 
 third_holds : (a b c d : Bool) → (a && (b && (c && d))) ≡ true → c ≡ true

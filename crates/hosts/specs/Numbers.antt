@@ -1,13 +1,17 @@
 -- The host Numbers: abs, of code 0, and coalesce, of code 1.
-use Rattle.std.specs.Prelude.{◌≡◌, ℕ, suc, ◌+◌, ◌^◌, ◌≤◌, Bool, true, false, cond, ◌&&◌, List, [], ◌∷◌, length, ℤ}
+use Rattle.std.specs.Prelude.{◌≡◌, ℕ, suc, ◌+◌, ◌^◌, ◌≤◌, Bool, false, cond, not, ◌&&◌, List, [], ◌∷◌, length, ℤ}
 use Rattle.std.specs.Prelude.{pos, negsuc, is_some, Some, None, Option, ◌==◌, nat_le, nat_lt}
+use Rattle.std.specs.List.{list_all}
 use Rattle.vocabulary.specs.declared.types.DType.{DType}
 use Rattle.vocabulary.specs.declared.types.Kind.TheVariants as kind
-use Rattle.vocabulary.specs.Types.{same_kind, alike, type_of}
+use Rattle.vocabulary.specs.Types.{alike, type_of}
+use Rattle.vocabulary.specs.declared.values.Value.{Value as Placed}
 use Rattle.meaning.specs.Outcomes.{value}
+use Rattle.meaning.specs.HostCode.{read}
 use Rattle.meaning.specs.Lists.{of_one}
 use Rattle.meaning.specs.Values.{Value, null, bool, signed, unsigned, text, ext, whole, is_null}
 use Rattle.meaning.specs.Hosts.{Constant, Reply, argument, plain, fails, Answer, nothing, child, Meaning, host_value}
+use Rattle.hosts.specs.Kinds.{kind_to_kind}
 use Rattle.hosts.specs.declared.numbers.NumberFunction.{NumberFunction}
 use Rattle.hosts.specs.declared.numbers.NumberFunction.TheVariants.{Abs, Coalesce}
 
@@ -23,17 +27,15 @@ numbers_takes None n = false
 
 -- abs of an I64 is an I64, nullable where its argument is
 abbrev pub abs_type : DType → Option DType
-abs_type t = cond (same_kind t.kind kind.I64) (Some (type_of kind.I64 t.nullable)) None
+abs_type t = kind_to_kind kind.I64 kind.I64 t
 
 -- each type is alike the first
 abbrev pub all_alike : DType → List DType → Bool
-all_alike t [] = true
-all_alike t (u ∷ us) = alike t u && all_alike t us
+all_alike t ts = list_all (alike t) ts
 
 -- each type is nullable
 abbrev pub all_nullable : List DType → Bool
-all_nullable [] = true
-all_nullable (t ∷ ts) = t.nullable && all_nullable ts
+all_nullable ts = list_all (λ t. t.nullable) ts
 
 -- coalesce of alike types is of their kind, nullable only where all are
 abbrev pub coalesce_type : List DType → Option DType
@@ -60,6 +62,10 @@ abs_reply (unsigned n) = fails 0
 abs_reply (text bs) = fails 0
 abs_reply (ext e z) = fails 0
 abs_reply (whole s) = fails 0
+
+-- an argument that is not null, whatever the texts are
+abbrev pub is_given : Placed → Bool
+is_given v = not (is_null (read [] [] v))
 
 -- the first argument that is not null, their places counted from i, or null where there is none
 abbrev pub first_given : ℕ → List Value → Reply

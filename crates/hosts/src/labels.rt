@@ -1,15 +1,16 @@
 ghost use Rattle.std.specs.Prelude.{◌≡◌, None};
+ghost use Rattle.std.specs.Result.{result_ok};
 ghost use Rattle.meaning.specs.Lists.{of_one, of_two};
 ghost use Rattle.meaning.specs.Hosts.{fails};
-ghost use Rattle.meaning.specs.HostCode.{read, read_all, reply_of};
-ghost use Rattle.hosts.specs.Labels.{label_function, labels, length_type, starts_type, length_reply};
+ghost use Rattle.meaning.specs.HostCode.{read_all, reply_of};
+ghost use Rattle.hosts.specs.Labels.{label_function, labels, starts_type, length_reply};
 ghost use Rattle.hosts.specs.Labels.{begins, BeginsIsAFront, starts_reply};
 ghost use Rattle.hosts.specs.LawsOfLabels.{labels_lawful, labels_names};
 
-use crate::arguments::{DOES_NOT_BIND, only, pair};
+use crate::calls::{DOES_NOT_BIND, UnknownCode, type_of_one};
 use meaning::answers::{Constant, Reply, RuleAnswer};
 use meaning::host::Host;
-use meaning::texts::bytes_of;
+use meaning::texts::Texts;
 use vocabulary::types::{DType, Kind};
 use vocabulary::values::Value;
 
@@ -28,6 +29,20 @@ pub enum LabelFunction {
     StartsWith,
 }
 
+impl TryFrom<u16> for LabelFunction {
+    type Error = UnknownCode;
+
+    ghost try_from_gives = { λ code r. result_ok r ≡ label_function code };
+
+    fn try_from(code: u16) -> Result<LabelFunction, UnknownCode> {
+        match code {
+            LENGTH => Ok(LabelFunction::Length),
+            STARTS_WITH => Ok(LabelFunction::StartsWith),
+            _ => Err(UnknownCode),
+        }
+    }
+}
+
 /// Two functions: the length of one Utf8 in bytes, and whether a first Utf8 begins with a second.
 #[derive(Clone, Copy)]
 pub struct Labels;
@@ -40,30 +55,30 @@ impl Host for Labels {
     ghost names = { λ h. labels_names };
 
     fn has(&self, code: u16) -> bool {
-        label_function(code).is_some()
+        LabelFunction::try_from(code).is_ok()
     }
 
     fn takes(&self, code: u16, count: u8) -> bool {
-        match label_function(code) {
-            Some(LabelFunction::Length) => count == 1,
-            Some(LabelFunction::StartsWith) => count == 2,
-            None => false,
+        match LabelFunction::try_from(code) {
+            Ok(LabelFunction::Length) => count == 1,
+            Ok(LabelFunction::StartsWith) => count == 2,
+            Err(UnknownCode) => false,
         }
     }
 
     fn type_of(&self, code: u16, types: &[DType]) -> Option<DType> {
-        match label_function(code) {
-            Some(LabelFunction::Length) => length_type(types),
-            Some(LabelFunction::StartsWith) => starts_type(types),
-            None => None,
+        match LabelFunction::try_from(code) {
+            Ok(LabelFunction::Length) => type_of_one(types, Kind::Utf8, Kind::U64),
+            Ok(LabelFunction::StartsWith) => starts_type(types),
+            Err(UnknownCode) => None,
         }
     }
 
-    fn value_of(&self, code: u16, args: &[Value], arena: &[u8], row: &[u8]) -> Reply {
-        match label_function(code) {
-            Some(LabelFunction::Length) => length(args, arena, row),
-            Some(LabelFunction::StartsWith) => starts_with(args, arena, row),
-            None => Reply::Fails(DOES_NOT_BIND),
+    fn value_of(&self, code: u16, args: &[Value], texts: Texts) -> Reply {
+        match LabelFunction::try_from(code) {
+            Ok(LabelFunction::Length) => length(args, texts),
+            Ok(LabelFunction::StartsWith) => starts_with(args, texts),
+            Err(UnknownCode) => Reply::Fails(DOES_NOT_BIND),
         }
     }
 
@@ -78,39 +93,12 @@ impl Host for Labels {
     }
 }
 
-/// The function of that code, if there is one.
-fn label_function(code: u16) -> Option<LabelFunction>
-    ensures { result ≡ label_function code }
-{
-    match code {
-        LENGTH => Some(LabelFunction::Length),
-        STARTS_WITH => Some(LabelFunction::StartsWith),
-        _ => None,
-    }
-}
-
-/// The type of the length over those types.
-fn length_type(types: &[DType]) -> Option<DType>
-    ensures { result ≡ of_one None length_type types.now }
-{
-    let [only] = types else {
-        return None;
-    };
-    match only.kind() {
-        Kind::Utf8 => Some(DType::new(Kind::U64, only.is_nullable())),
-        _ => None,
-    }
-}
-
 /// The type of the test over those types.
 fn starts_type(types: &[DType]) -> Option<DType>
     ensures { result ≡ of_two None starts_type types.now }
 {
-    let [text, front] = types else {
-        return None;
-    };
-    match (text.kind(), front.kind()) {
-        (Kind::Utf8, Kind::Utf8) => {
+    match types {
+        [text, front] if text.kind() == Kind::Utf8 && front.kind() == Kind::Utf8 => {
             let nullable = text.is_nullable() || front.is_nullable();
             Some(DType::new(Kind::Bool, nullable))
         }
@@ -118,29 +106,20 @@ fn starts_type(types: &[DType]) -> Option<DType>
     }
 }
 
-/// What the length replies to one argument.
-fn length_reply(argument: Value, arena: &[u8], row: &[u8]) -> Reply
-    ensures { reply_of result ≡ length_reply (read arena.now row.now argument) }
+/// What the length replies to those arguments.
+fn length(args: &[Value], texts: Texts) -> Reply
+    ensures { reply_of result ≡ of_one (fails 0) length_reply
+        (read_all texts.entry.arena.now texts.entry.row.now args.now) }
 {
-    match argument {
-        Value::Null => Reply::Plain(Constant::Null),
-        Value::Utf8(text) => Reply::Plain(Constant::U64(bytes_of(text, arena, row).len() as u64)),
+    match args {
+        [Value::Null] => Reply::Plain(Constant::Null),
+        [Value::Utf8(text)] => Reply::Plain(Constant::U64(texts.bytes_of(*text).len() as u64)),
         _ => Reply::Fails(DOES_NOT_BIND),
     }
 }
 
-/// What the length replies to those arguments.
-fn length(args: &[Value], arena: &[u8], row: &[u8]) -> Reply
-    ensures { reply_of result ≡ of_one (fails 0) length_reply
-        (read_all arena.now row.now args.now) }
-{
-    match only(args) {
-        Some(argument) => length_reply(argument, arena, row),
-        None => Reply::Fails(DOES_NOT_BIND),
-    }
-}
-
 /// Whether the bytes begin with those in front.
+#[tactic(auto, using(crate::proofs::Fronts::begun, crate::proofs::Fronts::begins_is_a_front))]
 fn begins(bytes: &[u8], front: &[u8]) -> bool
     ensures value { result ≡ begins bytes.now front.now }
     ensures law { BeginsIsAFront }
@@ -148,29 +127,18 @@ fn begins(bytes: &[u8], front: &[u8]) -> bool
     bytes.starts_with(front)
 }
 
-/// What the test replies to a text and what it may begin with.
-fn starts_reply(text: Value, front: Value, arena: &[u8], row: &[u8]) -> Reply
-    ensures { reply_of result ≡ starts_reply (read arena.now row.now text)
-        (read arena.now row.now front) }
+/// What the test replies to those arguments.
+fn starts_with(args: &[Value], texts: Texts) -> Reply
+    ensures { reply_of result ≡ of_two (fails 0) starts_reply
+        (read_all texts.entry.arena.now texts.entry.row.now args.now) }
 {
-    match (text, front) {
-        (Value::Null, _) | (Value::Utf8(_), Value::Null) => Reply::Plain(Constant::Null),
-        (Value::Utf8(text), Value::Utf8(front)) => {
-            let text = bytes_of(text, arena, row);
-            let front = bytes_of(front, arena, row);
+    match args {
+        [Value::Null, _] | [Value::Utf8(_), Value::Null] => Reply::Plain(Constant::Null),
+        [Value::Utf8(text), Value::Utf8(front)] => {
+            let text = texts.bytes_of(*text);
+            let front = texts.bytes_of(*front);
             Reply::Plain(Constant::Bool(begins(text, front)))
         }
         _ => Reply::Fails(DOES_NOT_BIND),
-    }
-}
-
-/// What the test replies to those arguments.
-fn starts_with(args: &[Value], arena: &[u8], row: &[u8]) -> Reply
-    ensures { reply_of result ≡ of_two (fails 0) starts_reply
-        (read_all arena.now row.now args.now) }
-{
-    match pair(args) {
-        Some((text, front)) => starts_reply(text, front, arena, row),
-        None => Reply::Fails(DOES_NOT_BIND),
     }
 }

@@ -1,6 +1,6 @@
 //! Two hosts: functions on numbers and functions on texts.
 #![tactic(auto)]
 
-mod arguments;
+pub mod calls;
 pub mod labels;
 pub mod numbers;

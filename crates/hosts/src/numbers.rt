@@ -1,15 +1,17 @@
-ghost use Rattle.std.specs.Prelude.{◌≡◌, ℕ, ◌+◌, ◌≤◌, List, length, None};
+ghost use Rattle.std.specs.Prelude.{◌≡◌, ℕ, ◌<◌, List, length, position, IfSome};
+ghost use Rattle.std.specs.Result.{result_ok};
 ghost use Rattle.meaning.specs.Lists.{of_one};
 ghost use Rattle.meaning.specs.Hosts.{fails};
-ghost use Rattle.meaning.specs.HostCode.{read, read_all, reply_of, answer_of};
-ghost use Rattle.hosts.specs.Numbers.{number_function, numbers, abs_type, abs_number, abs_reply};
+ghost use Rattle.meaning.specs.HostCode.{read_all, reply_of, answer_of};
+ghost use Rattle.hosts.specs.Numbers.{number_function, numbers, abs_number, abs_reply};
 ghost use Rattle.hosts.specs.Numbers.{all_alike, all_nullable, coalesce_type, coalesce_rule};
-ghost use Rattle.hosts.specs.Numbers.{first_given, coalesce_reply, CoalesceIsTheFirst};
+ghost use Rattle.hosts.specs.Numbers.{is_given, coalesce_reply, CoalesceIsTheFirst};
 ghost use Rattle.hosts.specs.LawsOfNumbers.{numbers_lawful, numbers_names};
 
-use crate::arguments::{DOES_NOT_BIND, only};
+use crate::calls::{DOES_NOT_BIND, UnknownCode, type_of_one};
 use meaning::answers::{Constant, Reply, RuleAnswer};
 use meaning::host::Host;
+use meaning::texts::Texts;
 use vocabulary::nodes::MAX_CHILDREN;
 use vocabulary::types::{DType, Kind};
 use vocabulary::values::Value;
@@ -32,6 +34,20 @@ pub enum NumberFunction {
     Coalesce,
 }
 
+impl TryFrom<u16> for NumberFunction {
+    type Error = UnknownCode;
+
+    ghost try_from_gives = { λ code r. result_ok r ≡ number_function code };
+
+    fn try_from(code: u16) -> Result<NumberFunction, UnknownCode> {
+        match code {
+            ABS => Ok(NumberFunction::Abs),
+            COALESCE => Ok(NumberFunction::Coalesce),
+            _ => Err(UnknownCode),
+        }
+    }
+}
+
 /// Two functions: `abs` of one I64, and `coalesce` of two to eight arguments of alike types.
 #[derive(Clone, Copy)]
 pub struct Numbers;
@@ -44,30 +60,30 @@ impl Host for Numbers {
     ghost names = { λ h. numbers_names };
 
     fn has(&self, code: u16) -> bool {
-        number_function(code).is_some()
+        NumberFunction::try_from(code).is_ok()
     }
 
     fn takes(&self, code: u16, count: u8) -> bool {
-        match number_function(code) {
-            Some(NumberFunction::Abs) => count == 1,
-            Some(NumberFunction::Coalesce) => 2 <= count && count <= MAX_CHILDREN,
-            None => false,
+        match NumberFunction::try_from(code) {
+            Ok(NumberFunction::Abs) => count == 1,
+            Ok(NumberFunction::Coalesce) => (2..=MAX_CHILDREN).contains(&count),
+            Err(UnknownCode) => false,
         }
     }
 
     fn type_of(&self, code: u16, types: &[DType]) -> Option<DType> {
-        match number_function(code) {
-            Some(NumberFunction::Abs) => abs_type(types),
-            Some(NumberFunction::Coalesce) => coalesce_type(types),
-            None => None,
+        match NumberFunction::try_from(code) {
+            Ok(NumberFunction::Abs) => type_of_one(types, Kind::I64, Kind::I64),
+            Ok(NumberFunction::Coalesce) => coalesce_type(types),
+            Err(UnknownCode) => None,
         }
     }
 
-    fn value_of(&self, code: u16, args: &[Value], arena: &[u8], row: &[u8]) -> Reply {
-        match number_function(code) {
-            Some(NumberFunction::Abs) => abs(args, arena, row),
-            Some(NumberFunction::Coalesce) => coalesce(args, arena, row),
-            None => Reply::Fails(DOES_NOT_BIND),
+    fn value_of(&self, code: u16, args: &[Value], _texts: Texts) -> Reply {
+        match NumberFunction::try_from(code) {
+            Ok(NumberFunction::Abs) => abs(args),
+            Ok(NumberFunction::Coalesce) => coalesce(args),
+            Err(UnknownCode) => Reply::Fails(DOES_NOT_BIND),
         }
     }
 
@@ -78,34 +94,10 @@ impl Host for Numbers {
         _literals: &[Option<Value>],
         _arena: &[u8],
     ) -> RuleAnswer {
-        match number_function(code) {
-            Some(NumberFunction::Coalesce) => coalesce_rule(types),
-            _ => RuleAnswer::nothing(),
+        match NumberFunction::try_from(code) {
+            Ok(NumberFunction::Coalesce) => coalesce_rule(types),
+            Ok(NumberFunction::Abs) | Err(UnknownCode) => RuleAnswer::nothing(),
         }
-    }
-}
-
-/// The function of that code, if there is one.
-fn number_function(code: u16) -> Option<NumberFunction>
-    ensures { result ≡ number_function code }
-{
-    match code {
-        ABS => Some(NumberFunction::Abs),
-        COALESCE => Some(NumberFunction::Coalesce),
-        _ => None,
-    }
-}
-
-/// The type of `abs` over those types.
-fn abs_type(types: &[DType]) -> Option<DType>
-    ensures { result ≡ of_one None abs_type types.now }
-{
-    let [only] = types else {
-        return None;
-    };
-    match only.kind() {
-        Kind::I64 => Some(DType::new(Kind::I64, only.is_nullable())),
-        _ => None,
     }
 }
 
@@ -119,25 +111,14 @@ fn abs_number(number: i64) -> Reply
     }
 }
 
-/// What `abs` replies to one argument, whatever the texts are.
-fn abs_reply(argument: Value) -> Reply
-    ensures { (arena row : List ℕ) → reply_of result ≡ abs_reply (read arena row argument) }
+/// What `abs` replies to those arguments, whatever the texts are.
+fn abs(args: &[Value]) -> Reply
+    ensures { (arena row : List ℕ) → reply_of result ≡ of_one (fails 0) abs_reply (read_all arena row args.now) }
 {
-    match argument {
-        Value::Null => Reply::Plain(Constant::Null),
-        Value::I64(number) => abs_number(number),
+    match args {
+        [Value::Null] => Reply::Plain(Constant::Null),
+        [Value::I64(number)] => abs_number(*number),
         _ => Reply::Fails(DOES_NOT_BIND),
-    }
-}
-
-/// What `abs` replies to those arguments.
-fn abs(args: &[Value], arena: &[u8], row: &[u8]) -> Reply
-    ensures { reply_of result ≡ of_one (fails 0) abs_reply
-        (read_all arena.now row.now args.now) }
-{
-    match only(args) {
-        Some(argument) => abs_reply(argument),
-        None => Reply::Fails(DOES_NOT_BIND),
     }
 }
 
@@ -145,24 +126,16 @@ fn abs(args: &[Value], arena: &[u8], row: &[u8]) -> Reply
 fn all_alike(dtype: DType, types: &[DType]) -> bool
     ensures { result ≡ all_alike dtype types.now }
 {
-    for other in types {
-        if !dtype.eq_ignore_nullability(*other) {
-            return false;
-        }
-    }
-    true
+    types
+        .iter()
+        .all(|other| dtype.eq_ignore_nullability(*other))
 }
 
 /// Whether each of the types is nullable.
 fn all_nullable(types: &[DType]) -> bool
     ensures { result ≡ all_nullable types.now }
 {
-    for dtype in types {
-        if !dtype.is_nullable() {
-            return false;
-        }
-    }
-    true
+    types.iter().all(|dtype| dtype.is_nullable())
 }
 
 /// The type of `coalesce` over those types.
@@ -170,35 +143,31 @@ fn coalesce_type(types: &[DType]) -> Option<DType>
     ensures { result ≡ coalesce_type types.now }
 {
     let (first, rest) = types.split_first()?;
-    if all_alike(*first, rest) {
-        Some(DType::new(first.kind(), all_nullable(types)))
-    } else {
-        None
-    }
+    all_alike(*first, rest).then_some(DType::new(first.kind(), all_nullable(types)))
 }
 
-/// The first of the arguments that is not null, or null, whatever the texts are. The first of all has that place.
-fn first_given(place: u8, args: &[Value]) -> Reply
-    requires { place + length args.now ≤ 8 }
-    ensures { (arena row : List ℕ) → reply_of result ≡ first_given place (read_all arena row args.now) }
+/// The place of the first argument that is not null.
+fn first_given(args: &[Value]) -> Option<usize>
+    ensures value { result ≡ position is_given args.now }
+    ensures within { IfSome result (λ place. place < length args.now) }
 {
-    match args.split_first() {
-        None => Reply::Plain(Constant::Null),
-        Some((Value::Null, rest)) => first_given(place + 1, rest),
-        Some(_) => Reply::Argument(place),
-    }
+    args.iter()
+        .position(|argument| !matches!(argument, Value::Null))
 }
 
-/// What `coalesce` replies to those arguments. Its value is the first of them that is not null.
-fn coalesce(args: &[Value], arena: &[u8], row: &[u8]) -> Reply
-    ensures value { reply_of result ≡ coalesce_reply
-        (read_all arena.now row.now args.now) }
+/// What `coalesce` replies to those arguments, whatever the texts are. Its value is the first of them that is not
+/// null.
+#[tactic(auto, using(crate::specs::LawsOfNumbers::coalesce_is_the_first))]
+fn coalesce(args: &[Value]) -> Reply
+    ensures value { (arena row : List ℕ) → reply_of result ≡ coalesce_reply (read_all arena row args.now) }
     ensures law { CoalesceIsTheFirst }
 {
-    if args.len() <= MAX_CHILDREN as usize {
-        first_given(0, args)
-    } else {
-        Reply::Fails(DOES_NOT_BIND)
+    if args.len() > usize::from(MAX_CHILDREN) {
+        return Reply::Fails(DOES_NOT_BIND);
+    }
+    match first_given(args) {
+        Some(place) => Reply::Argument(place as u8),
+        None => Reply::Plain(Constant::Null),
     }
 }
 

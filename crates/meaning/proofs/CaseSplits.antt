@@ -1,7 +1,9 @@
 -- Taking options, outcomes and operand lists apart.
-use Rattle.std.proofs.Common.{◌≡◌, ℕ, Bool, true, false, cond, ◌⊎◌, List, [], ◌∷◌, Some, None, Option, sym, refl, ap}
+use Rattle.std.proofs.Common.{◌≡◌, ℕ, true, false, ◌⊎◌, List, [], ◌∷◌, Some, None, Option, sym, refl, ap}
 use Rattle.std.proofs.Common.{inl, inr, arith}
 use Rattle.std.specs.Option.{option_map, option_or}
+-- an answer under a test passed the test
+pub use Rattle.std.proofs.lemmas.Option.{cond_some}
 use Rattle.vocabulary.specs.declared.operators.Connective.{Connective}
 use Rattle.meaning.specs.Kleene.{kleene}
 use Rattle.meaning.specs.Lists.{of_none, of_one, of_two, of_three}
@@ -67,11 +69,6 @@ or_other_some (Some b) y a p = inl p
 pub or_other_none : {A : Type 0} (x y : Option A) → option_or x y ≡ None → (x ≡ None) × (y ≡ None)
 or_other_none None y p = (refl, p)
 or_other_none (Some b) y p = some_none b p
-
--- an answer under a test passed the test
-pub cond_some : {A : Type 0} (c : Bool) (x y : A) → cond c (Some x) None ≡ Some y → (c ≡ true) × (x ≡ y)
-cond_some true x y p = (refl, some_same p)
-cond_some false x y p = none_some y p
 
 -- what goes on to a value had one
 pub then_value : {A B : Type 0} (x : Outcome A) (f : A → Outcome B) (b : B) → then x f ≡ value b

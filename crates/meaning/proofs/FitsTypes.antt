@@ -24,7 +24,7 @@ use Rattle.meaning.specs.Values.{all_fit}
 use Rattle.meaning.proofs.CaseSplits.{fault_value, false_true, value_same, cond_some, then_value}
 
 -- null fits nullable types alone
-null_fits : (v : Value) (t : DType) → is_null v ≡ true → fits v t ≡ true → t.nullable ≡ true
+pub null_fits : (v : Value) (t : DType) → is_null v ≡ true → fits v t ≡ true → t.nullable ≡ true
 null_fits null t p q = q
 null_fits (bool b) t p q = false_true p
 null_fits (signed z) t p q = false_true p
@@ -195,7 +195,7 @@ pub fit_nil : (vs : List Value) → all_fit vs [] ≡ true → vs ≡ []
 fit_nil [] p = refl
 fit_nil (v ∷ vs) p = false_true p
 
-fit_cons : (vs : List Value) (t : DType) (ts : List DType) → all_fit vs (t ∷ ts) ≡ true
+pub fit_cons : (vs : List Value) (t : DType) (ts : List DType) → all_fit vs (t ∷ ts) ≡ true
     → (v : Value) × (ws : List Value) × (vs ≡ v ∷ ws) × (fits v t ≡ true) × (all_fit ws ts ≡ true)
 fit_cons [] t ts p = false_true p
 fit_cons (v ∷ vs) t ts p = let (a, b) = and_parts _ _ p in (v, vs, refl, a, b)

@@ -2,6 +2,7 @@
 use Rattle.std.proofs.Common.{◌≡◌, Bool, true, false, cond, ◌&&◌, ◌||◌, List, [], ◌∷◌, Some, None, Option, sym, refl}
 use Rattle.std.proofs.Common.{ap, ◌∙◌, inl, inr, arith}
 use Rattle.std.proofs.lemmas.Bool.{and_parts}
+use Rattle.std.proofs.Math.Bool.{or_assoc}
 use Rattle.vocabulary.specs.Types.{same_kind, plain_kind}
 use Rattle.vocabulary.specs.declared.operators.CompareOperator.{CompareOperator}
 use Rattle.vocabulary.specs.declared.operators.Connective.TheVariants.{And, Or}
@@ -87,13 +88,10 @@ and_types_commute (Some t) None = refl
 and_types_commute (Some t) (Some u) =
     logic_gate_commutes (same_kind kind.Bool t.kind) (same_kind kind.Bool u.kind) t.nullable u.nullable
 
-or_associates : (a b c : Bool) → ((a || b) || c) ≡ (a || (b || c))
-or_associates a b c = grind arith
-
 gates : (i j k a b c : Bool)
     → and_then (gate (i && j) (a || b)) (λ (s : DType). gate (same_kind kind.Bool s.kind && k) (s.nullable || c))
     ≡ and_then (gate (j && k) (b || c)) (λ (s : DType). gate (i && same_kind kind.Bool s.kind) (a || s.nullable))
-gates true true true a b c = ap (λ (z : Bool). Some (boolean z)) (or_associates a b c)
+gates true true true a b c = ap (λ (z : Bool). Some (boolean z)) (or_assoc a b c)
 gates true true false a b c = refl
 gates true false k a b c = refl
 gates false true true a b c = refl

@@ -3,7 +3,6 @@ pub mod Binding
 pub mod CaseSplits
 pub mod Comparisons
 pub mod ConjunctCases
-pub mod Cuts
 pub mod DeclaredColumns
 pub mod DepthSuffices
 pub mod FaultPlaces

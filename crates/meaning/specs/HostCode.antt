@@ -1,5 +1,5 @@
 -- What a host is handed and what it answers, from the code's types to the meaning's.
-use Rattle.std.specs.Prelude.{ℕ, List, [], map, take, drop, Option, slice_index}
+use Rattle.std.specs.Prelude.{ℕ, List, [], map, take, drop, Option}
 use Rattle.std.specs.Option.{option_map}
 use Rattle.vocabulary.specs.declared.values.Span.{Span}
 use Rattle.vocabulary.specs.declared.values.Text.{Text}
@@ -10,9 +10,8 @@ use Rattle.meaning.specs.declared.answers.Constant.{Constant as CodeConstant}
 use Rattle.meaning.specs.declared.answers.Constant.TheVariants as made
 use Rattle.meaning.specs.declared.answers.Reply.{Reply as CodeReply}
 use Rattle.meaning.specs.declared.answers.Reply.TheVariants as replied
-use Rattle.meaning.specs.declared.answers.RuleTag.{RuleTag}
-use Rattle.meaning.specs.declared.answers.RuleTag.TheVariants as tag
 use Rattle.meaning.specs.declared.answers.RuleAnswer.{RuleAnswer}
+use Rattle.meaning.specs.declared.answers.RuleAnswer.TheVariants as answered
 use Rattle.meaning.specs.Values.{Value, null, bool, signed, unsigned, text, ext}
 use Rattle.meaning.specs.Hosts.{Constant, Reply, argument, plain, fails, Answer, nothing, child, constant, other}
 
@@ -26,7 +25,7 @@ bytes_of arena row (Arena s) = part arena s
 bytes_of arena row (Row s) = part row s
 
 -- the value that one by its place stands for, over the arena's text and the row's
-abbrev pub read : List ℕ → List ℕ → Placed → Value
+abbrev pub read : List ℕ → List ℕ → Placed Text → Value
 read arena row placed.Null = null
 read arena row (placed.Bool b) = bool b
 read arena row (placed.I64 z) = signed z
@@ -35,11 +34,11 @@ read arena row (placed.Utf8 t) = text (bytes_of arena row t)
 read arena row (placed.Extension e z) = ext e z
 
 -- the values that arguments stand for
-abbrev pub read_all : List ℕ → List ℕ → List Placed → List Value
+abbrev pub read_all : List ℕ → List ℕ → List (Placed Text) → List Value
 read_all arena row vs = map (read arena row) vs
 
 -- the values of those arguments that are literals, whose text lies in the arena
-abbrev pub read_literals : List ℕ → List (Option Placed) → List (Option Value)
+abbrev pub read_literals : List ℕ → List (Option (Placed Text)) → List (Option Value)
 read_literals arena ls = map (option_map (read arena [])) ls
 
 -- the constant that a host made
@@ -56,13 +55,9 @@ reply_of (replied.Argument i) = argument i
 reply_of (replied.Plain k) = plain (constant_of k)
 reply_of (replied.Fails c) = fails c
 
--- what a rule answered, by the tag
-abbrev pub answer_by : RuleTag → RuleAnswer → Answer
-answer_by tag.Nothing r = nothing
-answer_by tag.Child r = child (slice_index r.places 0)
-answer_by tag.Constant r = constant (constant_of r.constant)
-answer_by tag.Other r = other r.code (take r.count r.places)
-
 -- what a rule answered
 abbrev pub answer_of : RuleAnswer → Answer
-answer_of r = answer_by r.tag r
+answer_of answered.Nothing = nothing
+answer_of (answered.Child i) = child i
+answer_of (answered.Constant k) = constant (constant_of k)
+answer_of (answered.Other c p) = other c (take p.count p.places)

@@ -1,5 +1,6 @@
 -- The meaning of a host: its functions by their codes.
-use Rattle.std.specs.Prelude.{ℕ, Bool, true, cond, ◌&&◌, List, [], ◌∷◌, length, ℤ, Some, None, Option, nat_le}
+use Rattle.std.specs.Prelude.{ℕ, Bool, cond, ◌&&◌, List, length, ℤ, Some, None, Option, nat_le}
+use Rattle.std.specs.List.{list_all}
 use Rattle.vocabulary.specs.declared.types.DType.{DType}
 use Rattle.vocabulary.specs.Types.{plain_kind}
 use Rattle.meaning.specs.Outcomes.{Outcome, value, fault, host, malformed}
@@ -68,8 +69,7 @@ host_value m c vs = reply_value vs (m.gives c vs)
 
 -- each type is plain: no Row, no Extension above 15
 abbrev pub all_plain : List DType → Bool
-all_plain [] = true
-all_plain (t ∷ ts) = plain_kind t.kind && all_plain ts
+all_plain ts = list_all (λ t. plain_kind t.kind) ts
 
 -- a call binds: a code of the host, a count that it takes, at most 8 arguments, all of plain types
 abbrev pub binds : Meaning → ℕ → List DType → Bool

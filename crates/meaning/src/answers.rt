@@ -2,7 +2,10 @@ ghost use Rattle.std.specs.Prelude.{◌≡◌, take};
 ghost use Rattle.meaning.specs.Hosts.{Answer};
 ghost use Rattle.meaning.specs.HostCode.{constant_of, answer_of};
 
+use crate::places::Places;
+
 /// A value that a host can make of itself: null, or any that is no text.
+// Kept beside `Value`: one type for both, with an empty type in place of the text, is no plainer.
 #[derive(Clone, Copy)]
 pub enum Constant {
     Null,
@@ -24,80 +27,50 @@ pub enum Reply {
     Fails(u16),
 }
 
-/// Which of its answers a rule gives.
+/// What the rule of a function answers.
 #[derive(Clone, Copy)]
-pub enum RuleTag {
-    /// No rewrite.
+pub enum RuleAnswer {
+    /// The call stays as it is.
     Nothing,
-    /// One of the children.
-    Child,
-    /// A literal.
-    Constant,
-    /// Another function of the host, over some of the children.
-    Other,
+    /// The child at that place replaces the call.
+    Child(u8),
+    /// A literal of that value, of the call's type, replaces the call.
+    Constant(Constant),
+    /// A call of the function of that code, over the children at those places, replaces the call.
+    Other { code: u16, places: Places },
 }
 
-/// What the rule of a function answers. The tag says which of the other fields count: of `Child` the first
-/// place, of `Constant` the constant, of `Other` the code and the first `count` places.
-#[derive(Clone, Copy)]
-pub struct RuleAnswer {
-    pub tag: RuleTag,
-    pub constant: Constant,
-    pub code: u16,
-    pub places: [u8; 8],
-    pub count: u8,
-}
-
+// Kept beside the variants: hosts of customers call these, and the contracts say what each variant means.
 impl RuleAnswer {
     /// The call stays as it is.
     pub fn nothing() -> RuleAnswer
         ensures { answer_of result ≡ Answer.nothing }
     {
-        RuleAnswer {
-            tag: RuleTag::Nothing,
-            constant: Constant::Null,
-            code: 0,
-            places: [0; 8],
-            count: 0,
-        }
+        RuleAnswer::Nothing
     }
 
     /// The child at that place replaces the call.
     pub fn child(place: u8) -> RuleAnswer
         ensures { answer_of result ≡ Answer.child place }
     {
-        RuleAnswer {
-            tag: RuleTag::Child,
-            constant: Constant::Null,
-            code: 0,
-            places: [place, 0, 0, 0, 0, 0, 0, 0],
-            count: 1,
-        }
+        RuleAnswer::Child(place)
     }
 
     /// A literal of that value, of the call's type, replaces the call.
     pub fn constant(value: Constant) -> RuleAnswer
         ensures { answer_of result ≡ Answer.constant (constant_of value) }
     {
-        RuleAnswer {
-            tag: RuleTag::Constant,
-            constant: value,
-            code: 0,
-            places: [0; 8],
-            count: 0,
-        }
+        RuleAnswer::Constant(value)
     }
 
-    /// A call of that function of the host, over the children at the first `count` places, replaces the call.
-    pub fn other(code: u16, places: [u8; 8], count: u8) -> RuleAnswer
-        ensures { answer_of result ≡ Answer.other code (take count places) }
+    /// A call of that function of the host, over the children at those places, replaces the call. It takes the
+    /// first eight of them.
+    pub fn other(code: u16, places: &[u8]) -> RuleAnswer
+        ensures { answer_of result ≡ Answer.other code (take 8 places.now) }
     {
-        RuleAnswer {
-            tag: RuleTag::Other,
-            constant: Constant::Null,
+        RuleAnswer::Other {
             code,
-            places,
-            count,
+            places: Places::new(places),
         }
     }
 }

@@ -12,7 +12,7 @@ pub fn call_type<H: Host>(host: &H, code: u16, types: &[DType]) -> Option<DType>
     ensures value { result ≡ host_type (H.Host.meaning host.now) code types.now }
     ensures plain { IfSome result (λ t. is_plain t ≡ true) }
 {
-    if types.len() > MAX_CHILDREN as usize || !all_plain(types) {
+    if types.len() > usize::from(MAX_CHILDREN) || !all_plain(types) {
         return None;
     }
     if !host.has(code) || !host.takes(code, types.len() as u8) {
@@ -25,10 +25,5 @@ pub fn call_type<H: Host>(host: &H, code: u16, types: &[DType]) -> Option<DType>
 fn all_plain(types: &[DType]) -> bool
     ensures { result ≡ all_plain types.now }
 {
-    for dtype in types {
-        if !dtype.is_plain() {
-            return false;
-        }
-    }
-    true
+    types.iter().all(|dtype| dtype.is_plain())
 }

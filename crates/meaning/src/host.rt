@@ -4,6 +4,7 @@ ghost use Rattle.meaning.specs.Lawful.{Lawful, NamesArguments};
 ghost use Rattle.meaning.specs.HostCode.{read_all, read_literals, reply_of, answer_of};
 
 use crate::answers::{Reply, RuleAnswer};
+use crate::texts::Texts;
 use vocabulary::types::DType;
 use vocabulary::values::Value;
 
@@ -26,14 +27,15 @@ pub trait Host {
     fn type_of(&self, code: u16, types: &[DType]) -> Option<DType>
         ensures { result ≡ (meaning self.now).types code types.now };
 
-    /// What the function replies to those arguments, when a call is evaluated. Their texts lie in the arena's
-    /// text or the row's, where `texts::bytes_of` reads them.
-    fn value_of(&self, code: u16, args: &[Value], arena: &[u8], row: &[u8]) -> Reply
+    /// What the function replies to those arguments, when a call is evaluated. `Texts::bytes_of`
+    /// reads those that are texts.
+    fn value_of(&self, code: u16, args: &[Value], texts: Texts) -> Reply
         ensures { reply_of result ≡ (meaning self.now).gives code
-            (read_all arena.now row.now args.now) };
+            (read_all texts.entry.arena.now texts.entry.row.now args.now) };
 
     /// What replaces a call when an expression is optimized, by the types of its arguments and the values of
     /// those that are literals. A host without rules answers `RuleAnswer::nothing()`.
+    // Kept as two lists: `type_of` takes the types alone, and the meaning of a rule is of any two lists.
     fn rule(
         &self,
         code: u16,

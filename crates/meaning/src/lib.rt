@@ -8,4 +8,5 @@ pub mod calls;
 pub mod host;
 pub mod laws;
 pub mod no_functions;
+pub mod places;
 pub mod texts;

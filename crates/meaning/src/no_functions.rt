@@ -3,6 +3,7 @@ ghost use Rattle.std.proofs.Common.{rules};
 
 use crate::answers::{Reply, RuleAnswer};
 use crate::host::Host;
+use crate::texts::Texts;
 use vocabulary::types::DType;
 use vocabulary::values::Value;
 
@@ -29,7 +30,7 @@ impl Host for NoFunctions {
         None
     }
 
-    fn value_of(&self, code: u16, _args: &[Value], _arena: &[u8], _row: &[u8]) -> Reply {
+    fn value_of(&self, code: u16, _args: &[Value], _texts: Texts) -> Reply {
         Reply::Fails(code)
     }
 

@@ -3,21 +3,30 @@ ghost use Rattle.meaning.specs.HostCode.{part, bytes_of};
 
 use vocabulary::values::{Span, Text};
 
-/// The bytes of a text, of the arena's text or the row's. A text that passes their end is cut there.
-pub fn bytes_of<'a>(text: Text, arena: &'a [u8], row: &'a [u8]) -> &'a [u8]
-    ensures { result.now ≡ bytes_of arena.now row.now text }
-{
-    match text {
-        Text::Arena(span) => part_of(arena, span),
-        Text::Row(span) => part_of(row, span),
+/// The two texts that a value may lie in: the arena's and the row's.
+#[derive(Clone, Copy)]
+pub struct Texts<'a> {
+    pub arena: &'a [u8],
+    pub row: &'a [u8],
+}
+
+impl<'a> Texts<'a> {
+    /// The bytes of a text. One that passes the end of what it lies in is cut there.
+    pub fn bytes_of(self, text: Text) -> &'a [u8]
+        ensures { result.now ≡ bytes_of self.entry.arena.now self.entry.row.now text }
+    {
+        match text {
+            Text::Arena(span) => part_of(self.arena, span),
+            Text::Row(span) => part_of(self.row, span),
+        }
     }
 }
 
-/// The bytes of that part, as far as they go.
-fn part_of(bytes: &[u8], span: Span) -> &[u8]
+/// The bytes of that part of one text, as far as they go.
+#[tactic(auto, using(std::proofs::lemmas::List::take_min, std::proofs::lemmas::List::drop_min))]
+pub fn part_of(bytes: &[u8], span: Span) -> &[u8]
     ensures { result.now ≡ part bytes.now span }
 {
-    let start = bytes.len().min(span.start as usize);
-    let end = bytes.len().min(start + span.len as usize);
-    &bytes[start..end]
+    let rest = &bytes[bytes.len().min(span.start as usize)..];
+    &rest[..rest.len().min(span.len as usize)]
 }

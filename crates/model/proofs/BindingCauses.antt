@@ -15,7 +15,8 @@ use Rattle.model.specs.Soundness.{Below, Sound}
 use Rattle.model.specs.LawsOfMaking.{Grows}
 use Rattle.model.specs.LawsOfRefusing.{Refused, FirstMissing}
 use Rattle.model.specs.LawsOfRefusing.{too_deep, too_large}
-use Rattle.model.specs.Unbound.{UnboundNode, UnboundStore, tree_for}
+use Rattle.vocabulary.specs.Nodes.{UnboundNode}
+use Rattle.model.specs.Unbound.{UnboundStore, tree_for}
 use Rattle.model.specs.UnboundSoundness.{SoundUnbound, SoundUnboundNode}
 use Rattle.model.specs.BindingTrees.{asked, first, all_or_nothing, bind_among, bind}
 use Rattle.model.specs.LawsOfRefusedBinding.{head_for, Cause, RefusedBinding, no_node, no_schema, work_short, at_node}

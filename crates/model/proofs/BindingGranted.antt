@@ -4,16 +4,17 @@ use Rattle.std.proofs.Common.{Ok, Result, sym, refl, ap, ◌∙◌, subst, arith
 use lib.ListN.{length-map}
 use Rattle.std.proofs.lemmas.Bool.{eqb-true}
 use Rattle.vocabulary.specs.declared.refusals.Refusal.{Refusal}
-use Rattle.vocabulary.specs.declared.nodes.Node.{Node}
+use Rattle.vocabulary.specs.Nodes.{BoundNode as Node}
 use Rattle.meaning.specs.Hosts.{Meaning}
 use Rattle.meaning.specs.Trees.{Expr, cons, size, sizes}
 use Rattle.model.specs.Stores.{Store}
-use Rattle.model.specs.Shapes.{Head, head_of, shape, shaped, trees_by, shape_tree, tree_among, tree}
+use Rattle.model.specs.Shapes.{Head, head_of, shape, shaped, trees_by, shape_tree, tree_among, tree, kids}
 use Rattle.model.specs.Wanted.{new_head}
 use Rattle.model.specs.Making.{head_counts}
 use Rattle.model.specs.Soundness.{Below, Sound}
 use Rattle.model.specs.LawsOfMaking.{Grows}
-use Rattle.model.specs.Unbound.{UnboundNode, unbound_kids, rows, seen}
+use Rattle.vocabulary.specs.Nodes.{UnboundNode}
+use Rattle.model.specs.Unbound.{rows, seen}
 use Rattle.model.specs.UnboundMaking.{any_host}
 use Rattle.model.specs.BindingTrees.{onward, asked, bind_over, bind_all, bind_among}
 use Rattle.model.proofs.Adding.{steps_only_add}
@@ -23,7 +24,7 @@ use Rattle.model.proofs.BindingSteps.{onward_ok, tree_lasts, head_asked, heads_a
 
 -- a record of the number n, over that text, whose children are older and as many as they may be
 pub record Fit (text : List ℕ) (n : ℕ) (x : UnboundNode) : Type 0 where
-  pub older : Below n (unbound_kids x)
+  pub older : Below n (kids x)
   pub counted : (q : ℕ) → head_counts any_host (head_of text (rows q) x.function) x.child_count ≡ true
   pub eight : length x.children ≡ 8
   pub few : x.child_count ≤ 8
@@ -33,7 +34,7 @@ Fits text [] = Unit {0}
 Fits text (x ∷ xs) = Fit text (length xs) x × Fits text xs
 
 pub kids_long : (text : List ℕ) (n : ℕ) (x : UnboundNode) → Fit text n x
-    → length (unbound_kids x) ≡ x.child_count
+    → length (kids x) ≡ x.child_count
 kids_long text n x f =
     let few = f.few in
     simp (length-take, f.eight) (omega arith)
@@ -123,12 +124,12 @@ module _ (m : Meaning) (q : ℕ) (text : List ℕ) where
 
   -- a node over children that are bound
   pub over_granted : (g : ℕ → Expr) (at : ℕ) (x : UnboundNode) → Fit text at x → (s s1 : Store) (js : List ℕ)
-      → BoundAll m g (unbound_kids x) s s1 js → (k : ℕ) (later : Store)
+      → BoundAll m g (kids x) s s1 js → (k : ℕ) (later : Store)
       → bind_over m q text at x js s1 ≡ (Ok k, later)
       → Bound m (shape_tree g (shape text (seen q x))) s later k
   over_granted g at x fit s s1 js all k later e =
       let w = asked q text x.function in
-      let ks = unbound_kids x in
+      let ks = kids x in
       let h = head_of text (rows q) x.function in
       let same : new_head w ≡ h = head_asked q text x.function in
       let long : length js ≡ x.child_count = all.long ∙ kids_long text at x fit in
@@ -153,13 +154,13 @@ module _ (m : Meaning) (q : ℕ) (text : List ℕ) where
   granted (x ∷ xs) fits n s sound k later e = go (granted xs fits.1) (eqb n (length xs)) refl e
     where
       go : Binds m (bind_among m q text xs) (trees_in xs) → (b : Bool) → eqb n (length xs) ≡ b
-          → cond b (onward (bind_all (bind_among m q text xs) (unbound_kids x) s) (bind_over m q text n x))
+          → cond b (onward (bind_all (bind_among m q text xs) (kids x) s) (bind_over m q text n x))
           (bind_among m q text xs n s) ≡ (Ok k, later) → Bound m (trees_in (x ∷ xs) n) s later k
       go one true a h =
           let i : n ≡ length xs = eqb-true n (length xs) a in
-          let p = onward_ok (bind_all (bind_among m q text xs) (unbound_kids x) s) (bind_over m q text n x) k later h in
+          let p = onward_ok (bind_all (bind_among m q text xs) (kids x) s) (bind_over m q text n x) k later h in
           let all =
-          all_granted m (bind_among m q text xs) (trees_in xs) one (unbound_kids x) s sound p.answer p.between
+          all_granted m (bind_among m q text xs) (trees_in xs) one (kids x) s sound p.answer p.between
           p.before in
           let fit : Fit text n x = subst (λ (z : ℕ). Fit text z x) (sym i) fits.0 in
           let newest : trees_in (x ∷ xs) n ≡ shape_tree (trees_in xs) (shape text (seen q x)) =

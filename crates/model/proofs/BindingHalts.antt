@@ -8,17 +8,17 @@ use Rattle.vocabulary.specs.Nodes.{padded}
 use Rattle.meaning.specs.Hosts.{Meaning}
 use Rattle.meaning.specs.Trees.{Expr, size, sizes}
 use Rattle.model.specs.Stores.{Store}
-use Rattle.model.specs.Shapes.{head_of, shape, trees_by, shape_tree}
+use Rattle.model.specs.Shapes.{head_of, shape, trees_by, shape_tree, kids}
 use Rattle.model.specs.Wanted.{new_bytes}
 use Rattle.model.specs.Making.{head_counts}
 use Rattle.model.specs.Soundness.{Sound}
 use Rattle.model.specs.LawsOfRefusing.{Refused}
-use Rattle.model.specs.Unbound.{UnboundNode, unbound_kids, rows, seen}
+use Rattle.vocabulary.specs.Nodes.{UnboundNode}
+use Rattle.model.specs.Unbound.{rows, seen}
 use Rattle.model.specs.UnboundMaking.{any_host}
 use Rattle.model.specs.BindingTrees.{onward, asked, bind_over, bind_all, bind_among}
 use Rattle.model.specs.LawsOfRefusedBinding.{itself, under}
-use Rattle.model.proofs.Numbers.{tree_newest}
-use Rattle.model.proofs.UnboundNumbers.{unbound_newest}
+use Rattle.model.proofs.Numbers.{tree_newest, node_newest}
 use Rattle.model.proofs.BindingSteps.{shape_size}
 use Rattle.model.proofs.BindingGranted.{Fit, Fits, kids_long, BoundAll, all_granted, trees_in, granted}
 use Rattle.model.proofs.BindingStopped.{stands_still, Stops, at_first, at_second, onward_err, StoppedChild}
@@ -33,9 +33,9 @@ module _ (m : Meaning) (q : ℕ) (text : List ℕ) where
 
   -- it has one place more than its children
   newest_size : (x : UnboundNode) (xs : List UnboundNode) (n : ℕ) → n ≡ length xs → Fit text n x
-      → size (trees_in m q text (x ∷ xs) n) ≡ suc (sizes (trees_by (trees_in m q text xs) (unbound_kids x)))
+      → size (trees_in m q text (x ∷ xs) n) ≡ suc (sizes (trees_by (trees_in m q text xs) (kids x)))
   newest_size x xs n i fit =
-      let ks = unbound_kids x in
+      let ks = kids x in
       let h = head_of text (rows q) x.function in
       ap size (newest_tree x xs n i)
       ∙ shape_size any_host (trees_in m q text xs) h ks
@@ -44,22 +44,22 @@ module _ (m : Meaning) (q : ℕ) (text : List ℕ) where
   module _ (x : UnboundNode) (xs : List UnboundNode) (n : ℕ) (i : n ≡ length xs) (fit : Fit text n x) (s : Store)
       (r : Refusal) where
     -- a child's tree was refused
-    in_child : StoppedChild m (trees_in m q text xs) (unbound_kids x) s (Halts m q text xs) r
+    in_child : StoppedChild m (trees_in m q text xs) (kids x) s (Halts m q text xs) r
         → Halted m q text (x ∷ xs) n s r
     in_child c =
-        let below : c.child < n = one_below m q text n (unbound_kids x) c.child fit.older c.one_of in
+        let below : c.child < n = one_below m q text n (kids x) c.child fit.older c.one_of in
         let inner = c.stops (omega (arith, below, i)) in
         let large = newest_size x xs n i fit in
         record {
           halt = lifted m q text x xs s c.store r c.kept inner.halt;
           stands =
-              under x (unbound_newest x xs n i) c.one_of
+              under x (node_newest x xs n i) c.one_of
               (stands_still x xs c.child inner.halt.at inner.stands);
           room = omega (arith, inner.room, c.room, large);
         }
 
     -- the node itself was refused
-    in_node : (s1 : Store) (js : List ℕ) → BoundAll m (trees_in m q text xs) (unbound_kids x) s s1 js
+    in_node : (s1 : Store) (js : List ℕ) → BoundAll m (trees_in m q text xs) (kids x) s s1 js
         → (later : Store) → bind_over m q text n x js s1 ≡ (Err r, later) → Halted m q text (x ∷ xs) n s r
     in_node s1 js all later e =
         let large = newest_size x xs n i fit in
@@ -67,7 +67,7 @@ module _ (m : Meaning) (q : ℕ) (text : List ℕ) where
           halt = record {
             at = n;
             node_of = x;
-            found = unbound_newest x xs n i;
+            found = node_newest x xs n i;
             store = s1;
             kept = all.kept;
             bound = js;
@@ -102,20 +102,20 @@ module _ (m : Meaning) (q : ℕ) (text : List ℕ) where
   halts (x ∷ xs) fits n s sound r later e l = go (halts xs fits.1) (eqb n (length xs)) refl e
     where
       go : Stops m (bind_among m q text xs) (Halts m q text xs) → (b : Bool) → eqb n (length xs) ≡ b
-          → cond b (onward (bind_all (bind_among m q text xs) (unbound_kids x) s) (bind_over m q text n x))
+          → cond b (onward (bind_all (bind_among m q text xs) (kids x) s) (bind_over m q text n x))
           (bind_among m q text xs n s) ≡ (Err r, later) → Halted m q text (x ∷ xs) n s r
       go stop true a h =
           let i : n ≡ length xs = eqb-true n (length xs) a in
           let fit : Fit text n x = subst (λ (z : ℕ). Fit text z x) (sym i) fits.0 in
           let f = bind_among m q text xs in
           let one = granted m q text xs fits.1 in
-          elim (onward_err (bind_all f (unbound_kids x) s) (bind_over m q text n x) r later h) [
+          elim (onward_err (bind_all f (kids x) s) (bind_over m q text n x) r later h) [
             | at_first c ↦
                 in_child x xs n i fit s r
-                (all_stopped m f (trees_in m q text xs) one (Halts m q text xs) stop (unbound_kids x) s sound r later c)
+                (all_stopped m f (trees_in m q text xs) one (Halts m q text xs) stop (kids x) s sound r later c)
             | at_second js s1 c d ↦
                 in_node x xs n i fit s r s1 js
-                (all_granted m f (trees_in m q text xs) one (unbound_kids x) s sound js s1 c) later d
+                (all_granted m f (trees_in m q text xs) one (kids x) s sound js s1 c) later d
           ]
       go stop false a h =
           let other = eqb-false n (length xs) a in

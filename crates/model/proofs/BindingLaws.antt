@@ -2,34 +2,34 @@
 use Rattle.std.proofs.Common.{◌≡◌, ℕ, Bool, true, false, ltb, leb, List, [], ◌∷◌, length, Some, Ok, Err, Result, sym}
 use Rattle.std.proofs.Common.{refl, ap, ◌∙◌, arith}
 use Rattle.std.proofs.lemmas.Bool.{le-leb, cond-true}
-use Rattle.vocabulary.specs.declared.nodes.Node.{Node}
+use Rattle.vocabulary.specs.Nodes.{BoundNode as Node}
 use Rattle.vocabulary.specs.declared.refusals.Refusal.{Refusal}
 use Rattle.meaning.specs.Hosts.{Meaning}
 use Rattle.meaning.specs.Columns.{Schemas}
 use Rattle.meaning.specs.Typing.{typed}
-use Rattle.model.specs.Stores.{Store}
+use Rattle.model.specs.Stores.{Store, node_among}
 use Rattle.model.specs.Wanted.{New, root, literal, get_item, cast, binary, between, host, new_bytes}
 use Rattle.model.specs.Making.{build, entered, schema_first, new_plan}
 use Rattle.model.specs.Soundness.{Sound}
 use Rattle.model.specs.LawsOfMaking.{Grows}
 use Rattle.model.specs.LawsOfRefusing.{SchemaThere}
-use Rattle.model.specs.Unbound.{UnboundNode, UnboundStore, unbound_among, tree_for}
+use Rattle.vocabulary.specs.Nodes.{UnboundNode}
+use Rattle.model.specs.Unbound.{UnboundStore, tree_for}
 use Rattle.model.specs.UnboundSoundness.{SoundUnbound}
 use Rattle.model.specs.BindingTrees.{first, all_or_nothing, bind_among, bind}
 use Rattle.model.specs.LawsOfBinding.{BoundTree, BoundAsAsked, KeptStore, BindingKeepsTheStore}
 use Rattle.model.specs.LawsOfBinding.{EachPlace, OneNodeForEachPlace, BindingMakesAsMaking}
 use Rattle.model.proofs.Children.{err_ok}
-use Rattle.model.proofs.Numbers.{node_below, node_there}
-use Rattle.model.proofs.UnboundNumbers.{unbound_older, unbound_newest, unbound_below}
+use Rattle.model.proofs.Numbers.{node_below, node_there, node_newest, node_older}
 use Rattle.model.proofs.BindingSteps.{tree_lasts, node_lasts}
 use Rattle.model.proofs.BindingGranted.{Fit, Fits, Bound, grown_from, granted}
 
 fits_all : (text : List ℕ) (xs : List UnboundNode)
-    → ((n : ℕ) (x : UnboundNode) → unbound_among xs n ≡ Some x → Fit text n x) → Fits text xs
+    → ((n : ℕ) (x : UnboundNode) → node_among xs n ≡ Some x → Fit text n x) → Fits text xs
 fits_all text [] h = tt
 fits_all text (x ∷ xs) h = (
-  h (length xs) x (unbound_newest x xs (length xs) refl),
-  fits_all text xs (λ n y e. h n y (unbound_older x xs n (unbound_below xs n y e) ∙ e)),
+  h (length xs) x (node_newest x xs (length xs) refl),
+  fits_all text xs (λ n y e. h n y (node_older x xs n (node_below xs n y e) ∙ e)),
 )
 
 -- the records of a sound unbound arena fit

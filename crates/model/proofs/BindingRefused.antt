@@ -2,25 +2,25 @@
 use Rattle.std.proofs.Common.{◌≡◌, ℕ, ◌+◌, ◌<◌, true, List, [], ◌∷◌, map, length, Some, Ok, Err, Result, sym, ap, ◌∙◌}
 use Rattle.std.proofs.Common.{subst, inl, inr, arith}
 use lib.ListN.{length-map}
-use Rattle.vocabulary.specs.declared.nodes.Node.{Node}
+use Rattle.vocabulary.specs.Nodes.{BoundNode as Node}
 use Rattle.vocabulary.specs.declared.refusals.Refusal.{Refusal}
 use Rattle.vocabulary.specs.Nodes.{padded}
 use Rattle.meaning.specs.Hosts.{Meaning}
 use Rattle.meaning.specs.Trees.{Expr, size}
-use Rattle.model.specs.Stores.{Store}
-use Rattle.model.specs.Shapes.{Head, head_of, shape, shaped, shape_tree, tree}
+use Rattle.model.specs.Stores.{Store, node_among}
+use Rattle.model.specs.Shapes.{Head, head_of, shape, shaped, shape_tree, tree, kids}
 use Rattle.model.specs.Wanted.{new_bytes, new_head}
 use Rattle.model.specs.Making.{named, head_counts, build, entered}
 use Rattle.model.specs.Soundness.{Below}
 use Rattle.model.specs.LawsOfRefusing.{Refused}
-use Rattle.model.specs.Unbound.{UnboundNode, unbound_among, unbound_kids, rows, seen}
+use Rattle.vocabulary.specs.Nodes.{UnboundNode}
+use Rattle.model.specs.Unbound.{rows, seen}
 use Rattle.model.specs.BindingTrees.{asked, plan_at, bind_over}
 use Rattle.model.specs.LawsOfRefusedBinding.{OneOf, StandsIn}
 use Rattle.model.proofs.Children.{err_ok}
 use Rattle.model.proofs.Missing.{err_same}
-use Rattle.model.proofs.Numbers.{tree_older}
+use Rattle.model.proofs.Numbers.{tree_older, node_below, node_older}
 use Rattle.model.proofs.Refusing.{has_cause}
-use Rattle.model.proofs.UnboundNumbers.{unbound_older, unbound_below}
 use Rattle.model.proofs.BindingSteps.{head_asked, padded_long, padded_back, heads_agree}
 use Rattle.model.proofs.BindingGranted.{Fit, kids_long, Kept, BoundAll, trees_in}
 
@@ -29,7 +29,7 @@ module _ (m : Meaning) (q : ℕ) (text : List ℕ) where
   pub record Halt (xs : List UnboundNode) (s : Store) (r : Refusal) : Type 0 where
     pub at : ℕ
     pub node_of : UnboundNode
-    pub found : unbound_among xs at ≡ Some node_of
+    pub found : node_among xs at ≡ Some node_of
     pub store : Store
     pub kept : Kept m s store
     pub bound : List ℕ
@@ -60,11 +60,11 @@ module _ (m : Meaning) (q : ℕ) (text : List ℕ) where
   abbrev pub lifted : (x : UnboundNode) (xs : List UnboundNode) (s t : Store) (r : Refusal) → Kept m s t → Halt xs t r
       → Halt (x ∷ xs) s r
   lifted x xs s t r kept h =
-      let l = unbound_below xs h.at h.node_of h.found in
+      let l = node_below xs h.at h.node_of h.found in
       record {
         at = h.at;
         node_of = h.node_of;
-        found = unbound_older x xs h.at l ∙ h.found;
+        found = node_older x xs h.at l ∙ h.found;
         store = h.store;
         kept = record {
           sound = h.kept.sound;
@@ -95,14 +95,14 @@ module _ (m : Meaning) (q : ℕ) (text : List ℕ) where
 
   -- a node that is refused over children that are bound
   pub over_refused : (g : ℕ → Expr) (at : ℕ) (x : UnboundNode) → Fit text at x → (s s1 : Store) (js : List ℕ)
-      → BoundAll m g (unbound_kids x) s s1 js → (r : Refusal) (later : Store)
+      → BoundAll m g (kids x) s s1 js → (r : Refusal) (later : Store)
       → bind_over m q text at x js s1 ≡ (Err r, later)
       → Refused m s1 at (head_of text (rows q) x.function) (new_bytes (asked q text x.function))
       (padded js x.child_count) x.child_count (shape_tree g (shape text (seen q x))) r
   over_refused g at x fit s s1 js all r later e =
       let w = asked q text x.function in
       let n = x.child_count in
-      let ks = unbound_kids x in
+      let ks = kids x in
       let h = head_of text (rows q) x.function in
       let same : new_head w ≡ h = head_asked q text x.function in
       let kids : length ks ≡ n = kids_long text at x fit in

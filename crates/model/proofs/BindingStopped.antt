@@ -7,19 +7,19 @@ use Rattle.meaning.specs.Trees.{Expr, size, sizes}
 use Rattle.model.specs.Stores.{Store}
 use Rattle.model.specs.Shapes.{trees_by}
 use Rattle.model.specs.Soundness.{Sound}
-use Rattle.model.specs.Unbound.{UnboundNode}
+use Rattle.vocabulary.specs.Nodes.{UnboundNode}
 use Rattle.model.specs.BindingTrees.{onward, bind_all}
 use Rattle.model.specs.LawsOfRefusedBinding.{OneOf, StandsIn, itself, under}
 use Rattle.model.proofs.Children.{err_ok}
 use Rattle.model.proofs.Missing.{err_same}
-use Rattle.model.proofs.UnboundNumbers.{unbound_older, unbound_below}
 use Rattle.model.proofs.BindingGranted.{Kept, Bound, Binds}
+use Rattle.model.proofs.Numbers.{node_below, node_older}
 
 -- one more node in front changes no tree
 pub stands_still : (x : UnboundNode) (xs : List UnboundNode) (n j : ℕ) → StandsIn xs n j → StandsIn (x ∷ xs) n j
 stands_still x xs n j itself = itself
 stands_still x xs n j (under y e w h) =
-    under y (unbound_older x xs n (unbound_below xs n y e) ∙ e) w (stands_still x xs _ j h)
+    under y (node_older x xs n (node_below xs n y e) ∙ e) w (stands_still x xs _ j h)
 
 -- what an answer of two steps that is refused says of each
 pub data Either {A B : Type 0} (p : Result A Refusal × Store) (f : A → Store → Result B Refusal × Store)

@@ -15,10 +15,11 @@ use Rattle.meaning.specs.Trees.{Expr, logic}
 use Rattle.meaning.specs.Typing.{typed, typed_all, fn_type, logic_type}
 use Rattle.meaning.proofs.CaseSplits.{and_then_none}
 use Rattle.model.specs.Stores.{Store}
-use Rattle.model.specs.Shapes.{Head, join, over, shaped, trees_by, shape_tree}
+use Rattle.model.specs.Shapes.{Head, join, over, shaped, trees_by, shape_tree, kids}
 use Rattle.model.specs.Making.{head_counts}
 use Rattle.model.specs.Soundness.{Below}
-use Rattle.model.specs.Unbound.{UnboundNode, UnboundStore, unbound_at, unbound_kids, seen, tree_for}
+use Rattle.vocabulary.specs.Nodes.{UnboundNode}
+use Rattle.model.specs.Unbound.{UnboundStore, unbound_at, seen, tree_for}
 use Rattle.model.specs.UnboundMaking.{any_host}
 use Rattle.model.specs.UnboundSoundness.{SoundUnbound, SoundUnboundNode}
 use Rattle.model.specs.LawsOfRefusedBinding.{OneOf, StandsIn, itself, under, head_for, Cause}
@@ -38,19 +39,19 @@ shape_below n (join o) ks c w =
 shape_below n (over f) ks c w = w
 
 module _ (q : ℕ) (u : UnboundStore) (n : ℕ) (x : UnboundNode) (fine : SoundUnboundNode q u n x) where
-  pub kids_counted : head_counts any_host (head_for q u x) (length (unbound_kids x)) ≡ true
+  pub kids_counted : head_counts any_host (head_for q u x) (length (kids x)) ≡ true
   kids_counted =
       let few = fine.few in
-      let long : length (unbound_kids x) ≡ x.child_count = simp (length-take, fine.eight) (omega arith) in
+      let long : length (kids x) ≡ x.child_count = simp (length-take, fine.eight) (omega arith) in
       ap (head_counts any_host (head_for q u x)) long ∙ fine.counted
 
   -- an unbound node's tree is its shape's, over the trees of its children
   pub shape_for : unbound_at u n ≡ Some x
-      → tree_for q u n ≡ shape_tree (tree_for q u) (shaped (head_for q u x) (unbound_kids x))
+      → tree_for q u n ≡ shape_tree (tree_for q u) (shaped (head_for q u x) (kids x))
   shape_for e =
       shown u.text _ n (seen q x)
       (seen_among q u.nodes n ∙ ap (option_map (seen q)) e)
-      (shape_below n (head_for q u x) (unbound_kids x) kids_counted fine.older)
+      (shape_below n (head_for q u x) (kids x) kids_counted fine.older)
 
 module _ (m : Meaning) (ss : Schemas) (f : ℕ → Expr) (k : ℕ) (none : typed m ss (f k) ≡ None) where
   among_none : (ks : List ℕ) → OneOf k ks → typed_all m ss (trees_by f ks) ≡ None
@@ -94,7 +95,7 @@ tree_none m ss u fine q n j (under {k = k} x a w h) e =
     let r = fine.each q n x a in
     let none = tree_none m ss u fine q k j h e in
     ap (typed m ss) (shape_for q u n x r a)
-    ∙ shape_none m ss (tree_for q u) k none (head_for q u x) (unbound_kids x) (kids_counted q u n x r) w
+    ∙ shape_none m ss (tree_for q u) k none (head_for q u x) (kids x) (kids_counted q u n x r) w
 
 module _ (m : Meaning) (u : UnboundStore) (fine : SoundUnbound u) (s : Store) (n q work k : ℕ) where
   of_types : (r : Refusal) → r ≡ Binding (DoesNotBind k) → RefusedBinding m u n q work s r

@@ -4,7 +4,7 @@ use Rattle.std.proofs.Common.{sym, refl, ap, ◌∙◌, subst, inl, inr, arith}
 use Rattle.std.proofs.lemmas.Bool.{leb-true, leb-false, le-leb, lt-leb, cond-true, cond-false, cases_lt}
 use Rattle.vocabulary.specs.declared.nodes.Function.{Function}
 use Rattle.vocabulary.specs.declared.nodes.Function.TheVariants.{Root, Literal, GetItem, Cast, Binary, Between, Host}
-use Rattle.vocabulary.specs.declared.nodes.Node.{Node}
+use Rattle.vocabulary.specs.Nodes.{BoundNode as Node}
 use Rattle.vocabulary.specs.declared.refusals.Refusal.{Refusal}
 use Rattle.meaning.specs.Hosts.{Meaning}
 use Rattle.meaning.proofs.CaseSplits.{none_some}

@@ -2,7 +2,7 @@
 use Rattle.std.proofs.Common.{◌≡◌, ℕ, ◌≤◌, min, true, List, [], ◌∷◌, length, get_or, take, Ok, Err, Result, sym, refl}
 use Rattle.std.proofs.Common.{ap, ◌∙◌, arith}
 use Rattle.std.proofs.lemmas.Bool.{eqb-true}
-use Rattle.vocabulary.specs.declared.nodes.Node.{Node}
+use Rattle.vocabulary.specs.Nodes.{BoundNode as Node}
 use Rattle.vocabulary.specs.declared.operators.Family.{Family}
 use Rattle.vocabulary.specs.declared.operators.Family.TheVariants.{Compare, Connect, Compute}
 use Rattle.vocabulary.specs.declared.refusals.Refusal.{Refusal}

@@ -2,7 +2,8 @@
 use Rattle.std.proofs.Common.{◌≡◌, ℕ, suc, ◌<◌, ◌≤◌, Bool, true, false, cond, eqb, List, [], ◌∷◌, length, Some, None}
 use Rattle.std.proofs.Common.{sym, refl, ap, ◌∙◌, arith}
 use Rattle.std.proofs.lemmas.Bool.{eqb-true, eqb-false, eq-eqb, ne_eqb}
-use Rattle.vocabulary.specs.declared.nodes.Node.{Node}
+use Rattle.vocabulary.specs.declared.nodes.Node.{Node as Record}
+use Rattle.vocabulary.specs.Nodes.{BoundNode as Node}
 use Rattle.meaning.specs.Trees.{Expr, node}
 use Rattle.meaning.proofs.CaseSplits.{none_some, some_same}
 use Rattle.model.specs.Stores.{node_among}
@@ -18,17 +19,20 @@ pub below_mono : (ks : List ℕ) (a b : ℕ) → a ≤ b → Below a ks → Belo
 below_mono [] a b h w = tt
 below_mono (k ∷ ks) a b h w = (omega (arith, w.0), below_mono ks a b h w.1)
 
-pub node_older : (x : Node) (xs : List Node) (n : ℕ) → n < length xs → node_among (x ∷ xs) n ≡ node_among xs n
+pub node_older : {T : Type 0} (x : Record T) (xs : List (Record T)) (n : ℕ) → n < length xs
+    → node_among (x ∷ xs) n ≡ node_among xs n
 unfolding node_among
 node_older x xs n h =
     ap (λ (b : Bool). cond b (Some x) (node_among xs n)) (ne_eqb n (length xs) (λ e. omega arith))
 
-pub node_newest : (x : Node) (xs : List Node) (n : ℕ) → n ≡ length xs → node_among (x ∷ xs) n ≡ Some x
+pub node_newest : {T : Type 0} (x : Record T) (xs : List (Record T)) (n : ℕ) → n ≡ length xs
+    → node_among (x ∷ xs) n ≡ Some x
 unfolding node_among
 node_newest x xs n h = ap (λ (b : Bool). cond b (Some x) (node_among xs n)) (eq-eqb n (length xs) h)
 
 -- a number with a record is below the count of the nodes
-pub node_below : (xs : List Node) (n : ℕ) (x : Node) → node_among xs n ≡ Some x → n < length xs
+pub node_below : {T : Type 0} (xs : List (Record T)) (n : ℕ) (x : Record T)
+    → node_among xs n ≡ Some x → n < length xs
 unfolding node_among
 node_below [] n x e = none_some x e
 node_below (y ∷ xs) n x e = go (node_below xs n x) (eqb n (length xs)) refl e

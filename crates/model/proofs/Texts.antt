@@ -4,9 +4,10 @@ use Rattle.std.proofs.Common.{Option, refl, ap, ◌∙◌, arith, length-append,
 use Rattle.std.proofs.lemmas.List.{take-append-le, drop-append-le, drop_at, take_all}
 use Rattle.vocabulary.specs.declared.nodes.Function.{Function}
 use Rattle.vocabulary.specs.declared.nodes.Function.TheVariants.{Root, Literal, GetItem, Cast, Binary, Between, Host}
-use Rattle.vocabulary.specs.declared.nodes.Node.{Node}
+use Rattle.vocabulary.specs.Nodes.{BoundNode as Node}
 use Rattle.vocabulary.specs.declared.types.DType.{DType}
 use Rattle.vocabulary.specs.declared.values.Span.{Span}
+use Rattle.vocabulary.specs.declared.values.Text.{Text}
 use Rattle.vocabulary.specs.declared.values.Text.TheVariants.{Arena, Row}
 use Rattle.vocabulary.specs.declared.values.Value.{Value as Placed}
 use Rattle.vocabulary.specs.declared.values.Value.TheVariants as placed
@@ -32,7 +33,7 @@ module _ (all more : List ℕ) where
       ap (take p.len) (drop-append-le p.start all more a)
       ∙ take-append-le p.len (drop p.start all) more b
 
-  pub read_kept : (v : Placed) → EndsWithin all (text_of_value v) → read (all ++ more) [] v ≡ read all [] v
+  pub read_kept : (v : Placed Text) → EndsWithin all (text_of_value v) → read (all ++ more) [] v ≡ read all [] v
   read_kept placed.Null h = refl
   read_kept (placed.Bool b) h = refl
   read_kept (placed.I64 z) h = refl

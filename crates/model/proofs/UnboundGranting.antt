@@ -4,16 +4,17 @@ use Rattle.std.proofs.Common.{Result, sym, refl, ap, ◌∙◌, inl, inr, append
 use Rattle.std.proofs.lemmas.Bool.{eqb-true}
 use Rattle.vocabulary.specs.declared.nodes.Function.{Function}
 use Rattle.vocabulary.specs.declared.nodes.Function.TheVariants.{Root, Literal, GetItem, Cast, Binary, Between, Host}
-use Rattle.vocabulary.specs.declared.nodes.Node.{Node}
+use Rattle.vocabulary.specs.Nodes.{BoundNode as Node}
 use Rattle.vocabulary.specs.declared.refusals.Refusal.{Refusal}
 use Rattle.meaning.specs.Trees.{Fn, Expr, node, nil}
-use Rattle.model.specs.Shapes.{Head, over, head_of, shaped, trees_by, shape_tree}
+use Rattle.model.specs.Shapes.{Head, over, head_of, shaped, trees_by, shape_tree, kids}
 use Rattle.model.specs.Wanted.{new_bytes}
 use Rattle.model.specs.Making.{named, head_counts, new_plan}
 use Rattle.model.specs.Rebuilding.{old_plan}
 use Rattle.model.specs.LawsOfMaking.{with_operands}
-use Rattle.model.specs.Unbound.{UnboundNode, UnboundStore, unbound_at, unbound_kids, unbound_grown, rows, seen}
-use Rattle.model.specs.Unbound.{untyped}
+use Rattle.vocabulary.specs.Nodes.{UnboundNode}
+use Rattle.model.specs.Unbound.{UnboundStore, unbound_at, unbound_grown, rows, seen}
+use Rattle.vocabulary.specs.Nodes.{untyped}
 use Rattle.model.specs.Unbound.{against, tree_for}
 use Rattle.model.specs.UnboundMaking.{any_host, build_unbound, entered_unbound, itself_or_new, rebuilt_unbound}
 use Rattle.model.specs.UnboundSoundness.{SoundUnbound}
@@ -62,7 +63,7 @@ module _ (u : UnboundStore) (sound : SoundUnbound u) (old : ℕ) (x : UnboundNod
   others_for q c =
       let h = head_of u.text (rows q) x.function in
       let few = head_few any_host h n c in
-      over_others any_host (tree_for q u) h (unbound_kids x) (named cs n)
+      over_others any_host (tree_for q u) h (kids x) (named cs n)
       (ap (head_counts any_host h) (named_length cs n eight few) ∙ c)
       ∙ ap (λ (z : Expr). with_operands z (trees_by (tree_for q u) (named cs n)))
       (sym (shape_for q u old x (sound.each q old x e) e))
@@ -98,7 +99,7 @@ module _ (u : UnboundStore) (sound : SoundUnbound u) (old : ℕ) (x : UnboundNod
       (sym (ap (λ (z : Head). head_counts any_host z x.child_count) h) ∙ r.counted) in
       let t : tree_for q u old ≡ node (Fn.root q) nil =
       shape_for q u old x r e
-      ∙ ap (λ (z : Head). shape_tree (tree_for q u) (shaped z (unbound_kids x))) h
+      ∙ ap (λ (z : Head). shape_tree (tree_for q u) (shaped z (kids x))) h
       ∙ ap (λ (z : ℕ). node (Fn.root q) (trees_by (tree_for q u) (take z x.children))) c in
       t ∙ sym (ap (λ (z : Expr). with_operands z nil) t)
 

@@ -3,32 +3,34 @@ use Rattle.std.proofs.Common.{◌≡◌, ℕ, suc, ◌<◌, ◌≤◌, Bool, tru
 use Rattle.std.proofs.Common.{sym, refl, ap, ◌∙◌, subst, arith, length-append}
 use lib.ListN.{length-map}
 use Rattle.std.proofs.lemmas.Bool.{eqb-true, eqb-false}
-use Rattle.vocabulary.specs.declared.nodes.Node.{Node}
+use Rattle.vocabulary.specs.Nodes.{BoundNode as Node}
 use Rattle.vocabulary.specs.Nodes.{padded, text_of}
 use Rattle.meaning.specs.Trees.{depth, size}
 use Rattle.meaning.proofs.CaseSplits.{some_same}
-use Rattle.model.specs.Shapes.{Head, head_of, shape, shaped, shape_tree, tree_among}
+use Rattle.model.specs.Shapes.{Head, head_of, shape, shaped, shape_tree, tree_among, kids}
 use Rattle.model.specs.Making.{Plan, named, head_counts, deepest, total_size}
 use Rattle.model.specs.Soundness.{Below, EndsWithin}
-use Rattle.model.specs.Unbound.{UnboundNode, UnboundStore, unbound_among, unbound_at, unbound_kids, unbound_grown}
-use Rattle.model.specs.Unbound.{rows, seen, untyped, against, tree_for}
+use Rattle.vocabulary.specs.Nodes.{UnboundNode}
+use Rattle.model.specs.Unbound.{UnboundStore, unbound_at, unbound_grown}
+use Rattle.vocabulary.specs.Nodes.{untyped}
+use Rattle.model.specs.Unbound.{rows, seen, against, tree_for}
 use Rattle.model.specs.UnboundMaking.{any_host}
 use Rattle.model.specs.UnboundSoundness.{SoundUnbound, SoundUnboundNode}
-use Rattle.model.proofs.Numbers.{tree_older, tree_newest, shapes_same}
+use Rattle.model.proofs.Numbers.{tree_older, tree_newest, shapes_same, node_below, node_newest, node_older}
 use Rattle.model.proofs.Texts.{ends_more, AllWithin, tree_kept}
 use Rattle.model.proofs.Children.{found_below}
 use Rattle.model.proofs.Growing.{head_few, named_length, padded_named, padded_eight, padded_again}
-use Rattle.model.proofs.UnboundNumbers.{unbound_older, unbound_newest, unbound_below}
 use Rattle.model.proofs.BindingSteps.{shape_size}
 use Rattle.model.proofs.UnboundPlans.{BuiltUnbound, HonestUnbound, same_takes, shape_depth, depths_for, sizes_for}
+use Rattle.model.specs.Stores.{node_among}
 
 within_seen : (q : ℕ) (all : List ℕ) (xs : List UnboundNode)
-    → ((n : ℕ) (y : UnboundNode) → unbound_among xs n ≡ Some y → EndsWithin all (text_of y.function))
+    → ((n : ℕ) (y : UnboundNode) → node_among xs n ≡ Some y → EndsWithin all (text_of y.function))
     → AllWithin all (map (seen q) xs)
 within_seen q all [] h = tt
 within_seen q all (x ∷ xs) h = (
-  h (length xs) x (unbound_newest x xs (length xs) refl),
-  within_seen q all xs (λ n y e. h n y (unbound_older x xs n (unbound_below xs n y e) ∙ e)),
+  h (length xs) x (node_newest x xs (length xs) refl),
+  within_seen q all xs (λ n y e. h n y (node_older x xs n (node_below xs n y e) ∙ e)),
 )
 
 module _ (u : UnboundStore) (sound : SoundUnbound u) (x : UnboundNode) (bs : List ℕ) where
@@ -40,7 +42,7 @@ module _ (u : UnboundStore) (sound : SoundUnbound u) (x : UnboundNode) (bs : Lis
   -- older records, and their trees, stay
   pub unbound_stays : (n : ℕ) (y : UnboundNode) → unbound_at u n ≡ Some y
       → unbound_at (unbound_grown x bs u) n ≡ Some y
-  unbound_stays n y e = unbound_older x u.nodes n (unbound_below u.nodes n y e) ∙ e
+  unbound_stays n y e = node_older x u.nodes n (node_below u.nodes n y e) ∙ e
 
   pub tree_for_stays : (q n : ℕ) → n < length u.nodes → tree_for q (unbound_grown x bs u) n ≡ tree_for q u n
   tree_for_stays q n l =
@@ -61,7 +63,7 @@ module _ (u : UnboundStore) (sound : SoundUnbound u) (x : UnboundNode) (bs : Lis
       → SoundUnboundNode q (unbound_grown x bs u) n y
   older_stays_sound q n y e =
       let old = sound.each q n y e in
-      let same = tree_for_stays q n (unbound_below u.nodes n y e) in
+      let same = tree_for_stays q n (node_below u.nodes n y e) in
       record {
         older = old.older;
         counted = same_takes q q (u.text ++ bs) u.text y.function y.child_count ∙ old.counted;
@@ -80,8 +82,8 @@ module _ (u : UnboundStore) (sound : SoundUnbound u) (p : Plan) (honest : Honest
   few_children : p.count ≤ 8
   few_children = head_few any_host p.head p.count b.counted
 
-  kids_are : unbound_kids (untyped x) ≡ named p.children p.count
-  kids_are = ap (λ (z : Node). unbound_kids (untyped z)) b.is ∙ padded_named p.children p.count eight
+  kids_are : kids (untyped x) ≡ named p.children p.count
+  kids_are = ap (λ (z : Node). kids (untyped z)) b.is ∙ padded_named p.children p.count eight
 
   -- what the new node computes against a schema
   abbrev pub planned_head : ℕ → Head
@@ -96,7 +98,7 @@ module _ (u : UnboundStore) (sound : SoundUnbound u) (p : Plan) (honest : Honest
       ∙ ap
       (λ (z : Node).
       shape_tree (tree_for q u)
-      (shaped (head_of (u.text ++ p.adds) (rows q) z.function) (unbound_kids (untyped x))))
+      (shaped (head_of (u.text ++ p.adds) (rows q) z.function) (kids (untyped x))))
       b.is
       ∙ ap (λ (ks : List ℕ). shape_tree (tree_for q u) (shaped (planned_head q) ks)) kids_are
 
@@ -159,13 +161,13 @@ module _ (u : UnboundStore) (sound : SoundUnbound u) (p : Plan) (honest : Honest
           → SoundUnboundNode q (unbound_grown (untyped x) p.adds u) n y
       go q n y e true h =
           let i = eqb-true n (length u.nodes) h in
-          let j : untyped x ≡ y = some_same (sym (unbound_newest (untyped x) u.nodes n i) ∙ e) in
+          let j : untyped x ≡ y = some_same (sym (node_newest (untyped x) u.nodes n i) ∙ e) in
           subst (SoundUnboundNode q (unbound_grown (untyped x) p.adds u) n) j
           (subst (λ (k : ℕ). SoundUnboundNode q (unbound_grown (untyped x) p.adds u) k (untyped x)) (sym i)
           (newest_is_sound q))
       go q n y e false h =
           let w = eqb-false n (length u.nodes) h in
-          let l = unbound_below (untyped x ∷ u.nodes) n y e in
+          let l = node_below (untyped x ∷ u.nodes) n y e in
           let l2 : n < length u.nodes = omega (arith, w, l) in
           older_stays_sound u sound (untyped x) p.adds q n y
-          (sym (unbound_older (untyped x) u.nodes n l2) ∙ e)
+          (sym (node_older (untyped x) u.nodes n l2) ∙ e)

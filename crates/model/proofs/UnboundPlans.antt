@@ -5,7 +5,7 @@ use lib.ListN.{length-map}
 use Rattle.std.proofs.lemmas.Bool.{leb-true, ltb-true, eqb-true}
 use Rattle.vocabulary.specs.declared.nodes.Function.{Function}
 use Rattle.vocabulary.specs.declared.nodes.Function.TheVariants.{Root, Literal, GetItem, Cast, Binary, Between, Host}
-use Rattle.vocabulary.specs.declared.nodes.Node.{Node}
+use Rattle.vocabulary.specs.Nodes.{BoundNode as Node}
 use Rattle.vocabulary.specs.Nodes.{text_of, text_of_value}
 use Rattle.meaning.specs.HostCode.{read}
 use Rattle.meaning.specs.Trees.{Fn, Expr, depth, depths, size, sizes}
@@ -19,7 +19,8 @@ use Rattle.model.specs.Wanted.{placed_behind, new_function, new_bytes, new_head}
 use Rattle.model.specs.Making.{Plan, named, looked_up, head_counts, deepest, total_size, new_record, new_plan}
 use Rattle.model.specs.Rebuilding.{old_plan}
 use Rattle.model.specs.Soundness.{EndsWithin}
-use Rattle.model.specs.Unbound.{UnboundNode, UnboundStore, unbound_at, rows, seen, against, tree_for}
+use Rattle.vocabulary.specs.Nodes.{UnboundNode}
+use Rattle.model.specs.Unbound.{UnboundStore, unbound_at, rows, seen, against, tree_for}
 use Rattle.model.specs.UnboundMaking.{any_host, over_unbound, build_unbound}
 use Rattle.model.specs.UnboundSoundness.{SoundUnbound}
 use Rattle.model.specs.LawsOfUnbound.{held, for_schema}

@@ -3,14 +3,15 @@ use Rattle.std.proofs.Common.{◌≡◌, ℕ, zero, suc, List, [], ◌∷◌, le
 use Rattle.std.proofs.Common.{refl, ◌∙◌, subst, arith}
 use Rattle.vocabulary.specs.declared.nodes.Function.{Function}
 use Rattle.vocabulary.specs.declared.nodes.Function.TheVariants.{Root, Literal, GetItem, Cast, Binary, Between, Host}
-use Rattle.vocabulary.specs.declared.nodes.Node.{Node}
+use Rattle.vocabulary.specs.Nodes.{BoundNode as Node}
 use Rattle.vocabulary.specs.declared.refusals.Refusal.{Refusal}
 use Rattle.meaning.proofs.CaseSplits.{none_some}
 use Rattle.model.specs.Wanted.{new_bytes}
 use Rattle.model.specs.Making.{Plan, new_plan}
 use Rattle.model.specs.Rebuilding.{old_plan}
 use Rattle.model.specs.Steps.{Step, makes, rebuilds, numbers}
-use Rattle.model.specs.Unbound.{UnboundNode, UnboundStore, unbound_among, unbound_at, unbound_grown, seen, untyped}
+use Rattle.vocabulary.specs.Nodes.{UnboundNode, untyped}
+use Rattle.model.specs.Unbound.{UnboundStore, unbound_at, unbound_grown, seen}
 use Rattle.model.specs.Unbound.{against, tree_for}
 use Rattle.model.specs.UnboundMaking.{build_unbound, entered_unbound, itself_or_new, rebuilt_unbound}
 use Rattle.model.specs.UnboundMaking.{perform_unbound}
@@ -18,13 +19,14 @@ use Rattle.model.specs.UnboundSoundness.{SoundUnbound}
 use Rattle.model.specs.LawsOfUnbound.{EmptyUnboundIsSound, UnboundStepsKeepSound, UnboundNodesStay}
 use Rattle.model.specs.LawsOfUnbound.{UnboundRefusalsChangeNothing}
 use Rattle.model.proofs.Children.{err_ok}
-use Rattle.model.proofs.UnboundNumbers.{unbound_below}
 use Rattle.model.proofs.UnboundPlans.{BuiltUnbound, built_unbound, HonestUnbound, new_honest_unbound}
 use Rattle.model.proofs.UnboundPlans.{old_honest_unbound}
 use Rattle.model.proofs.UnboundGrowing.{unbound_stays, tree_for_stays, unbound_grown_sound}
+use Rattle.model.specs.Stores.{node_among}
+use Rattle.model.proofs.Numbers.{node_below}
 
 pub empty_unbound_is_sound : EmptyUnboundIsSound
-unfolding unbound_among
+unfolding node_among
 empty_unbound_is_sound records bytes = record {
   each = λ q n x e. none_some x e;
   records_within = omega arith;
@@ -77,7 +79,7 @@ module _ (u : UnboundStore) (sound : SoundUnbound u) where
   left_stays same k x e = (e, λ q. refl)
   left_stays (more p y h l b) k x e = (
     unbound_stays u sound (untyped y) p.adds k x e,
-    λ q. tree_for_stays u sound (untyped y) p.adds q k (unbound_below u.nodes k x e),
+    λ q. tree_for_stays u sound (untyped y) p.adds q k (node_below u.nodes k x e),
   )
 
 pub unbound_steps_keep_sound : UnboundStepsKeepSound

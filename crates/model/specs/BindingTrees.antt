@@ -11,7 +11,9 @@ use Rattle.meaning.specs.Hosts.{Meaning}
 use Rattle.model.specs.Stores.{Store}
 use Rattle.model.specs.Wanted.{New, new_function, new_bytes, new_head}
 use Rattle.model.specs.Making.{Plan, build, entered}
-use Rattle.model.specs.Unbound.{UnboundNode, UnboundStore, unbound_kids}
+use Rattle.vocabulary.specs.Nodes.{UnboundNode}
+use Rattle.model.specs.Unbound.{UnboundStore}
+use Rattle.model.specs.Shapes.{kids}
 
 -- goes on with what was made; a refusal is passed on
 abbrev pub onward : {A B : Type 0} → Result A Refusal × Store
@@ -60,7 +62,7 @@ unfoldable pub bind_among : Meaning → ℕ → List ℕ → List UnboundNode �
 bind_among m q text [] n s = (Err (Memory (NoSuchNode n)), s)
 bind_among m q text (x ∷ xs) n s =
     cond (n == length xs)
-    (onward (bind_all (bind_among m q text xs) (unbound_kids x) s) (bind_over m q text n x))
+    (onward (bind_all (bind_among m q text xs) (kids x) s) (bind_over m q text n x))
     (bind_among m q text xs n s)
 
 -- a refusal leaves the store as it was

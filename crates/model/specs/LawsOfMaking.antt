@@ -1,7 +1,7 @@
 -- The laws of making and rebuilding.
 use Rattle.std.specs.Prelude.{◌≡◌, ℕ, suc, ◌⊎◌, List, ◌++◌, reverse, length, take, Some, Ok, Err}
 use Rattle.vocabulary.specs.declared.nodes.Function.TheVariants.{Root}
-use Rattle.vocabulary.specs.declared.nodes.Node.{Node}
+use Rattle.vocabulary.specs.Nodes.{BoundNode as Node}
 use Rattle.vocabulary.specs.declared.refusals.Refusal.{Refusal}
 use Rattle.meaning.specs.Columns.{Schemas}
 use Rattle.meaning.specs.Hosts.{Meaning}

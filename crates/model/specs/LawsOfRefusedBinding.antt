@@ -8,13 +8,14 @@ use Rattle.vocabulary.specs.declared.refusals.Refusal.TheVariants.{Memory, Bindi
 use Rattle.meaning.specs.Hosts.{Meaning}
 use Rattle.meaning.specs.Trees.{size}
 use Rattle.meaning.specs.Typing.{typed}
-use Rattle.model.specs.Stores.{Store}
-use Rattle.model.specs.Shapes.{Head, head_of}
+use Rattle.model.specs.Stores.{Store, node_among}
+use Rattle.model.specs.Shapes.{Head, head_of, kids}
 use Rattle.model.specs.Wanted.{new_bytes}
 use Rattle.model.specs.Making.{head_known, head_counts}
 use Rattle.model.specs.Soundness.{Sound}
 use Rattle.model.specs.LawsOfMaking.{Grows}
-use Rattle.model.specs.Unbound.{UnboundNode, UnboundStore, unbound_among, unbound_kids, rows, tree_for}
+use Rattle.vocabulary.specs.Nodes.{UnboundNode}
+use Rattle.model.specs.Unbound.{UnboundStore, rows, tree_for}
 use Rattle.model.specs.UnboundSoundness.{SoundUnbound}
 use Rattle.model.specs.BindingTrees.{asked, bind}
 
@@ -27,7 +28,7 @@ OneOf k (i ∷ is) = (k ≡ i) ⊎ OneOf k is
 pub data StandsIn (xs : List UnboundNode) : ℕ → ℕ → Type 0 where
   itself : {n : ℕ} → StandsIn xs n n
   under :
-      {n k j : ℕ} (x : UnboundNode) → unbound_among xs n ≡ Some x → OneOf k (unbound_kids x) → StandsIn xs k j
+      {n k j : ℕ} (x : UnboundNode) → node_among xs n ≡ Some x → OneOf k (kids x) → StandsIn xs k j
       → StandsIn xs n j
 
 -- what an unbound node computes against a schema
@@ -59,7 +60,7 @@ pub data RefusedBinding (m : Meaning) (u : UnboundStore) (n q work : ℕ) (s : S
       n < length u.nodes → q ≤ 7 → work < 256 → RefusedBinding m u n q work s (Memory (WorkShort n))
   at_node :
       {r : Refusal} → n < length u.nodes → q ≤ 7 → 256 ≤ work
-      → (k : ℕ) (x : UnboundNode) → StandsIn u.nodes n k → unbound_among u.nodes k ≡ Some x
+      → (k : ℕ) (x : UnboundNode) → StandsIn u.nodes n k → node_among u.nodes k ≡ Some x
       → Cause m u n q s k x r → RefusedBinding m u n q work s r
 
 -- a refusal leaves the store as it was

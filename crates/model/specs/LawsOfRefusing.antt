@@ -2,7 +2,7 @@
 use Rattle.std.specs.Prelude.{◌≡◌, ℕ, ◌+◌, ◌<◌, ◌≤◌, true, false, List, [], ◌∷◌, ◌++◌, length, take, Some, None, Err}
 use Rattle.std.specs.Prelude.{◌≢◌}
 use Rattle.vocabulary.specs.declared.nodes.Function.TheVariants.{Root}
-use Rattle.vocabulary.specs.declared.nodes.Node.{Node}
+use Rattle.vocabulary.specs.Nodes.{BoundNode as Node}
 use Rattle.vocabulary.specs.declared.refusals.BindingRefusal.TheVariants.{NoSuchCode, WrongChildCount}
 use Rattle.vocabulary.specs.declared.refusals.BindingRefusal.TheVariants.{DoesNotBind, TooDeep, TooLarge}
 use Rattle.vocabulary.specs.declared.refusals.MemoryRefusal.TheVariants.{NoSuchNode, NoSuchSchema}

@@ -7,7 +7,8 @@ use Rattle.model.specs.Shapes.{trees_by}
 use Rattle.model.specs.Wanted.{New, root, literal, get_item, cast, binary, between, host, new_bytes, new_tree}
 use Rattle.model.specs.Steps.{Step, AllEight}
 use Rattle.model.specs.LawsOfMaking.{with_operands}
-use Rattle.model.specs.Unbound.{UnboundNode, UnboundStore, empty_unbound, unbound_at, tree_for}
+use Rattle.vocabulary.specs.Nodes.{UnboundNode}
+use Rattle.model.specs.Unbound.{UnboundStore, empty_unbound, unbound_at, tree_for}
 use Rattle.model.specs.UnboundMaking.{make_unbound, unbound_with_children, perform_unbound, after_unbound}
 use Rattle.model.specs.UnboundSoundness.{SoundUnbound}
 

@@ -2,7 +2,8 @@
 use Rattle.std.specs.Prelude.{ℕ, cond, List, [], ◌∷◌, length, take, ◌==◌, slice_index}
 use Rattle.vocabulary.specs.declared.nodes.Function.{Function}
 use Rattle.vocabulary.specs.declared.nodes.Function.TheVariants.{Root, Literal, GetItem, Cast, Binary, Between, Host}
-use Rattle.vocabulary.specs.declared.nodes.Node.{Node}
+use Rattle.vocabulary.specs.declared.nodes.Node.{Node as Record}
+use Rattle.vocabulary.specs.Nodes.{BoundNode as Node}
 use Rattle.vocabulary.specs.declared.operators.Connective.{Connective}
 use Rattle.vocabulary.specs.declared.operators.Family.{Family}
 use Rattle.vocabulary.specs.declared.operators.Family.TheVariants.{Compare, Connect, Compute}
@@ -45,7 +46,7 @@ abbrev pub head : List ℕ → Node → Head
 head text x = head_of text x.dtype x.function
 
 -- the numbers of a node's children
-abbrev pub kids : Node → List ℕ
+abbrev pub kids : {T : Type 0} → Record T → List ℕ
 kids x = take x.child_count x.children
 
 -- And and Or are of the first two children

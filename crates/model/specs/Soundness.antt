@@ -1,6 +1,6 @@
 -- Sound stores: each record says what its tree is, and all lies within its room.
 use Rattle.std.specs.Prelude.{◌≡◌, ℕ, ◌+◌, ◌<◌, ◌≤◌, true, List, [], ◌∷◌, length, Some, None, Option}
-use Rattle.vocabulary.specs.declared.nodes.Node.{Node}
+use Rattle.vocabulary.specs.Nodes.{BoundNode as Node}
 use Rattle.vocabulary.specs.declared.values.Span.{Span}
 use Rattle.vocabulary.specs.Nodes.{padded, text_of}
 use Rattle.meaning.specs.Hosts.{Meaning}

@@ -1,6 +1,7 @@
 -- The arena as a value.
 use Rattle.std.specs.Prelude.{ℕ, cond, List, [], ◌∷◌, ◌++◌, length, Some, None, Option, ◌==◌}
-use Rattle.vocabulary.specs.declared.nodes.Node.{Node}
+use Rattle.vocabulary.specs.declared.nodes.Node.{Node as Record}
+use Rattle.vocabulary.specs.Nodes.{BoundNode as Node}
 use Rattle.meaning.specs.Columns.{Schemas}
 
 -- an arena: its schemas, its nodes with the newest first, its text, and how many records and bytes it has room for
@@ -16,7 +17,7 @@ abbrev pub empty : Schemas → ℕ → ℕ → Store
 empty ss records bytes = record { schemas = ss; nodes = []; text = []; records = records; bytes = bytes }
 
 -- the record of a number among nodes with the newest first: a node's number is the count of those made before it
-unfoldable pub node_among : List Node → ℕ → Option Node
+unfoldable pub node_among : {T : Type 0} → List (Record T) → ℕ → Option (Record T)
 node_among [] n = None
 node_among (x ∷ xs) n = cond (n == length xs) (Some x) (node_among xs n)
 

@@ -1,20 +1,11 @@
 -- The arena of unbound trees: records without types, and the trees that they stand for against a schema.
-use Rattle.std.specs.Prelude.{ℕ, false, cond, List, [], ◌∷◌, ◌++◌, map, length, take, Some, None, Option, ◌==◌}
-use Rattle.vocabulary.specs.declared.nodes.Function.{Function}
-use Rattle.vocabulary.specs.declared.nodes.Node.{Node}
+use Rattle.std.specs.Prelude.{ℕ, false, List, [], ◌∷◌, ◌++◌, map, Option}
+use Rattle.vocabulary.specs.Nodes.{BoundNode as Node, UnboundNode}
 use Rattle.vocabulary.specs.declared.types.DType.{DType}
 use Rattle.vocabulary.specs.declared.types.Kind.TheVariants as kind
 use Rattle.meaning.specs.Trees.{Expr}
-use Rattle.model.specs.Stores.{Store}
+use Rattle.model.specs.Stores.{Store, node_among}
 use Rattle.model.specs.Shapes.{tree}
-
--- the record of an unbound node: a node's without the type, and so a Root's without a schema
-pub record UnboundNode : Type 0 where
-  pub function : Function
-  pub children : List ℕ
-  pub child_count : ℕ
-  pub depth : ℕ
-  pub size : ℕ
 
 -- an arena of unbound nodes: the newest first, their text, and how many records and bytes it has room for
 pub record UnboundStore : Type 0 where
@@ -27,18 +18,9 @@ pub record UnboundStore : Type 0 where
 abbrev pub empty_unbound : ℕ → ℕ → UnboundStore
 empty_unbound records bytes = record { nodes = []; text = []; records = records; bytes = bytes }
 
--- the record of a number among nodes with the newest first
-unfoldable pub unbound_among : List UnboundNode → ℕ → Option UnboundNode
-unbound_among [] n = None
-unbound_among (x ∷ xs) n = cond (n == length xs) (Some x) (unbound_among xs n)
-
 -- the record of a number
 abbrev pub unbound_at : UnboundStore → ℕ → Option UnboundNode
-unbound_at u n = unbound_among u.nodes n
-
--- the numbers of a node's children
-abbrev pub unbound_kids : UnboundNode → List ℕ
-unbound_kids x = take x.child_count x.children
+unbound_at u n = node_among u.nodes n
 
 -- the arena with one more node, and with bytes behind its text
 abbrev pub unbound_grown : UnboundNode → List ℕ → UnboundStore → UnboundStore
@@ -60,16 +42,6 @@ seen q x = record {
   children = x.children;
   child_count = x.child_count;
   dtype = rows q;
-  depth = x.depth;
-  size = x.size;
-}
-
--- the same the other way round: a node's record without its type
-abbrev pub untyped : Node → UnboundNode
-untyped x = record {
-  function = x.function;
-  children = x.children;
-  child_count = x.child_count;
   depth = x.depth;
   size = x.size;
 }

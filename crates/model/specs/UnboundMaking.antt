@@ -2,7 +2,7 @@
 use Rattle.std.specs.Prelude.{ℕ, zero, suc, true, List, [], ◌∷◌, length, Some, None, Ok, Err, Option, Result}
 use Rattle.vocabulary.specs.declared.nodes.Function.{Function}
 use Rattle.vocabulary.specs.declared.nodes.Function.TheVariants.{Root, Literal, GetItem, Cast, Binary, Between, Host}
-use Rattle.vocabulary.specs.declared.nodes.Node.{Node}
+use Rattle.vocabulary.specs.Nodes.{BoundNode as Node}
 use Rattle.vocabulary.specs.declared.refusals.BindingRefusal.TheVariants.{WrongChildCount}
 use Rattle.vocabulary.specs.declared.refusals.MemoryRefusal.TheVariants.{NoSuchNode}
 use Rattle.vocabulary.specs.declared.refusals.Refusal.{Refusal}
@@ -13,7 +13,8 @@ use Rattle.model.specs.Wanted.{New, new_bytes}
 use Rattle.model.specs.Making.{Plan, named, looked_up, check, head_counts, sized, new_plan}
 use Rattle.model.specs.Rebuilding.{old_plan}
 use Rattle.model.specs.Steps.{Step, makes, rebuilds}
-use Rattle.model.specs.Unbound.{UnboundNode, UnboundStore, unbound_at, unbound_grown, rows, seen, untyped, against}
+use Rattle.vocabulary.specs.Nodes.{UnboundNode, untyped}
+use Rattle.model.specs.Unbound.{UnboundStore, unbound_at, unbound_grown, rows, seen, against}
 
 -- the host of unbound trees, which has every code and takes any count
 abbrev pub any_host : Meaning

@@ -1,17 +1,18 @@
--- Sound unbound arenas: each record says what its tree is, and all lies within its room.
+-- Sound unbound arena: each record says what its tree is, and all lies within its room.
 use Rattle.std.specs.Prelude.{◌≡◌, ℕ, ◌≤◌, true, length, Some}
 use Rattle.vocabulary.specs.Nodes.{padded, text_of}
 use Rattle.meaning.specs.Trees.{depth, size}
-use Rattle.model.specs.Shapes.{head_of}
+use Rattle.model.specs.Shapes.{head_of, kids}
 use Rattle.model.specs.Making.{head_counts}
 use Rattle.model.specs.Soundness.{Below, EndsWithin}
-use Rattle.model.specs.Unbound.{UnboundNode, UnboundStore, unbound_at, unbound_kids, rows, tree_for}
+use Rattle.vocabulary.specs.Nodes.{UnboundNode}
+use Rattle.model.specs.Unbound.{UnboundStore, unbound_at, rows, tree_for}
 use Rattle.model.specs.UnboundMaking.{any_host}
 
 -- the record x of the number n is sound, read against the schema q
 pub record SoundUnboundNode (q : ℕ) (u : UnboundStore) (n : ℕ) (x : UnboundNode) : Type 0 where
   -- its children were made before it
-  pub older : Below n (unbound_kids x)
+  pub older : Below n (kids x)
   -- they are as many as its function takes, for a function of the host at most eight
   pub counted : head_counts any_host (head_of u.text (rows q) x.function) x.child_count ≡ true
   -- its depth and its size are those of its tree, within the limits

@@ -6,6 +6,7 @@ use Rattle.vocabulary.specs.declared.operators.BetweenOptions.{BetweenOptions}
 use Rattle.vocabulary.specs.declared.operators.Operator.{Operator}
 use Rattle.vocabulary.specs.declared.types.DType.{DType}
 use Rattle.vocabulary.specs.declared.values.Span.{Span}
+use Rattle.vocabulary.specs.declared.values.Text.{Text}
 use Rattle.vocabulary.specs.declared.values.Text.TheVariants.{Arena}
 use Rattle.vocabulary.specs.declared.values.Value.{Value as Placed}
 use Rattle.vocabulary.specs.declared.values.Value.TheVariants as placed
@@ -31,7 +32,7 @@ abbrev pub behind : List ℕ → List ℕ → Span
 behind all bs = record { start = length all; len = length bs }
 
 -- a value with its text behind the text; no literal holds a whole row
-abbrev pub placed_behind : List ℕ → Value → Placed
+abbrev pub placed_behind : List ℕ → Value → Placed Text
 placed_behind all null = placed.Null
 placed_behind all (bool b) = placed.Bool b
 placed_behind all (signed z) = placed.I64 z

@@ -1,3 +1,4 @@
+use thiserror::Error;
 use vocabulary::types::DType;
 
 /// What a line says.
@@ -16,18 +17,24 @@ pub enum Directive {
 }
 
 /// What is wrong with a line.
-#[derive(Clone, Copy)]
+#[derive(Clone, Copy, Debug, Error)]
 pub enum Complaint {
+    #[error("no such directive")]
     NoSuchDirective,
+    #[error("a name is missing")]
     NameMissing,
+    #[error("a type is missing")]
     TypeMissing,
+    #[error("not a type")]
     NotAType,
     /// Something stands behind what the line needs.
+    #[error("more than the line needs")]
     Surplus,
 }
 
 /// A line that cannot be read, and how many bytes stand before the place that is wrong.
-#[derive(Clone, Copy)]
+#[derive(Clone, Copy, Debug, Error)]
+#[error("column {}: {complaint}", .at.saturating_add(1))]
 pub struct Mistake {
     pub at: usize,
     pub complaint: Complaint,

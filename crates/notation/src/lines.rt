@@ -1,58 +1,69 @@
-ghost use Rattle.std.specs.Prelude.{◌≡◌};
-ghost use Rattle.std.specs.Result.{result_map_both};
-ghost use Rattle.notation.specs.Lines.{said, mistaken, column_named, column_line, directive_named, line_said};
+ghost use Rattle.std.specs.Prelude.{◌≡◌, ◌≢◌, length};
+ghost use Rattle.std.specs.Result.{MatchResult, result_map_both};
+ghost use Rattle.notation.specs.Lines.{said, mistaken, column_line, directive_named, line_said};
+ghost use Rattle.notation.specs.Words.{after_blanks, word, after_word};
 
-use crate::line::*;
+use crate::line::{Complaint, Directive, Line, Mistake};
 use crate::type_names::read_type;
 use crate::words::{after_blanks, split_word};
-use vocabulary::texts::same_bytes;
 
-/// A complaint about the place where the rest of the line begins.
-fn mistake(line: &[u8], rest: &[u8], complaint: Complaint) -> Mistake
-    ensures { result ≡ mistaken line.now rest.now complaint }
-{
-    Mistake {
-        at: line.len().saturating_sub(rest.len()),
-        complaint,
-    }
+/// What of a line is still to be read.
+#[derive(Clone, Copy)]
+struct Rest<'a> {
+    line: &'a [u8],
+    bytes: &'a [u8],
 }
 
-/// The rest of a `column` line from its type on.
-fn read_column_type<'a>(line: &'a [u8], name: &'a [u8], rest: &'a [u8]) -> Result<Line<'a>, Mistake>
-    ensures { result_map_both said (λ e. e) result
-        ≡ column_named line.now name.now rest.now }
-{
-    if rest.is_empty() {
-        return Err(mistake(line, rest, Complaint::TypeMissing));
+impl<'a> Rest<'a> {
+    /// A complaint about the place where the rest begins.
+    fn mistake(self, complaint: Complaint) -> Mistake
+        ensures { result ≡ mistaken self.entry.line.now self.entry.bytes.now complaint }
+    {
+        Mistake {
+            at: self.line.len().saturating_sub(self.bytes.len()),
+            complaint,
+        }
     }
-    let (word, behind) = split_word(rest);
-    let Some(dtype) = read_type(word) else {
-        return Err(mistake(line, rest, Complaint::NotAType));
-    };
-    let end = after_blanks(behind);
-    if end.is_empty() {
-        Ok(Line::Column(name, dtype))
-    } else {
-        Err(mistake(line, end, Complaint::Surplus))
-    }
-}
 
-/// The rest of a `column` line from its name on.
-fn read_column<'a>(line: &'a [u8], rest: &'a [u8]) -> Result<Line<'a>, Mistake>
-    ensures { result_map_both said (λ e. e) result ≡ column_line line.now rest.now }
-{
-    if rest.is_empty() {
-        return Err(mistake(line, rest, Complaint::NameMissing));
+    /// The word in front, and the rest behind it and its blanks; a complaint if there is no word.
+    fn next_word(self, missing: Complaint) -> Result<(&'a [u8], Rest<'a>), Mistake>
+        ensures word { MatchResult result
+            (λ r. (length self.entry.bytes.now ≢ 0) × (r.0.now ≡ word self.entry.bytes.now))
+            (λ e. (length self.entry.bytes.now ≡ 0) × (e ≡ mistaken self.entry.line.now self.entry.bytes.now missing)) }
+        ensures rest { MatchResult result
+            (λ r. (r.1.line.now ≡ self.entry.line.now) × (r.1.bytes.now ≡ after_blanks (after_word self.entry.bytes.now)))
+            (λ e. length self.entry.bytes.now ≡ 0) }
+    {
+        if self.bytes.is_empty() {
+            return Err(self.mistake(missing));
+        }
+        let (word, behind) = split_word(self.bytes);
+        let bytes = after_blanks(behind);
+        Ok((word, Rest { bytes, ..self }))
     }
-    let (name, behind) = split_word(rest);
-    read_column_type(line, name, after_blanks(behind))
+
+    /// A `column` line, from its name on.
+    fn read_column(self) -> Result<Line<'a>, Mistake>
+        ensures { result_map_both said (λ e. e) result ≡ column_line self.entry.line.now self.entry.bytes.now }
+    {
+        let (name, of_type) = self.next_word(Complaint::NameMissing)?;
+        let (word, end) = of_type.next_word(Complaint::TypeMissing)?;
+        let Some(dtype) = read_type(word) else {
+            return Err(of_type.mistake(Complaint::NotAType));
+        };
+        if end.bytes.is_empty() {
+            Ok(Line::Column(name, dtype))
+        } else {
+            Err(end.mistake(Complaint::Surplus))
+        }
+    }
 }
 
 /// The directive of that name.
 fn read_directive(name: &[u8]) -> Option<Directive>
     ensures { result ≡ directive_named name.now }
 {
-    if same_bytes(name, b"column") {
+    if name == b"column".as_slice() {
         Some(Directive::Column)
     } else {
         None
@@ -63,13 +74,14 @@ fn read_directive(name: &[u8]) -> Option<Directive>
 pub fn read_line(line: &[u8]) -> Result<Line<'_>, Mistake>
     ensures { result_map_both said (λ e. e) result ≡ line_said line.now }
 {
-    let start = after_blanks(line);
-    if start.is_empty() || start[0] == b'#' {
+    let bytes = after_blanks(line);
+    if bytes.is_empty() || bytes.starts_with(b"#") {
         return Ok(Line::Blank);
     }
-    let (name, behind) = split_word(start);
+    let start = Rest { line, bytes };
+    let (name, behind) = start.next_word(Complaint::NoSuchDirective)?;
     match read_directive(name) {
-        Some(Directive::Column) => read_column(line, after_blanks(behind)),
-        None => Err(mistake(line, start, Complaint::NoSuchDirective)),
+        Some(Directive::Column) => behind.read_column(),
+        None => Err(start.mistake(Complaint::NoSuchDirective)),
     }
 }

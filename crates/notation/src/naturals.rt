@@ -5,10 +5,8 @@ ghost use Rattle.notation.specs.Naturals.{natural, one_more};
 fn push_digit(number: u64, digit: u8) -> Option<u64>
     ensures { result ≡ one_more number digit }
 {
-    if !digit.is_ascii_digit() {
-        return None;
-    }
-    number.checked_mul(10)?.checked_add(u64::from(digit - b'0'))
+    let digit = char::from(digit).to_digit(10)?;
+    number.checked_mul(10)?.checked_add(u64::from(digit))
 }
 
 /// The number that the digits write, if there are some and it has at most 64 bits.
@@ -18,9 +16,7 @@ pub(crate) fn read_natural(digits: &[u8]) -> Option<u64>
     if digits.is_empty() {
         return None;
     }
-    let mut number = 0;
-    for digit in digits {
-        number = push_digit(number, *digit)?;
-    }
-    Some(number)
+    digits
+        .iter()
+        .try_fold(0, |number, digit| push_digit(number, *digit))
 }

@@ -1,17 +1,15 @@
-ghost use Rattle.std.specs.Prelude.{◌≡◌, map, length};
+ghost use Rattle.std.specs.Prelude.{◌≡◌, ◌≤◌, true, length};
 ghost use Rattle.std.specs.Str.{bytes_eq};
-ghost use Rattle.schemas.specs.Headings.{field_of};
-ghost use Rattle.schemas.specs.Tables.{fields_of};
+ghost use Rattle.schemas.specs.Declarations.{declared};
 
 use crate::column::Column;
 use crate::tables::Schema;
-use vocabulary::texts::same_bytes;
 use vocabulary::types::DType;
 
 impl Column {
     /// Its name's bytes.
     pub fn name(&self) -> &[u8]
-        ensures { result.now ≡ (field_of self.now).name }
+        ensures { result.now ≡ self.now.name }
     {
         let len = self.name_len as usize;
         &self.name[0..len]
@@ -19,14 +17,14 @@ impl Column {
 
     /// Whether it has that name, byte for byte.
     pub fn is_named(&self, name: &[u8]) -> bool
-        ensures { result ≡ bytes_eq (field_of self.now).name name.now }
+        ensures { result ≡ bytes_eq self.now.name name.now }
     {
-        same_bytes(self.name(), name)
+        self.name() == name
     }
 
     /// Its type.
     pub fn dtype(&self) -> DType
-        ensures { result ≡ (field_of self.now).dtype }
+        ensures { result ≡ self.now.dtype }
     {
         self.dtype
     }
@@ -35,16 +33,18 @@ impl Column {
 impl Schema {
     /// How many columns it has.
     pub fn len(&self) -> u8
-        ensures { result ≡ length (fields_of self.now) }
+        ensures { result ≡ length self.now }
     {
         self.count
     }
 
     /// Its columns, in the order of their places.
     pub fn columns(&self) -> &[Column]
-        ensures { map field_of result.now ≡ fields_of self.now }
+        ensures listed { result.now ≡ self.now }
+        ensures declared { declared self.now ≡ true }
+        ensures few { length self.now ≤ 32 }
     {
-        let count = self.count as usize;
-        &self.columns[0..count]
+        let columns = &self.columns[..];
+        &columns[..self.count as usize]
     }
 }

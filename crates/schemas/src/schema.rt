@@ -1,13 +1,12 @@
-ghost use Rattle.std.specs.Prelude.{◌≡◌, ◌≤◌, length};
+ghost use Rattle.std.specs.Prelude.{◌≡◌, ◌≤◌, [], length};
 ghost use Rattle.schemas.specs.Declarations.{takes, grown};
 ghost use Rattle.schemas.specs.Fields.{field, found};
-ghost use Rattle.schemas.specs.Headings.{field_of};
-ghost use Rattle.schemas.specs.Tables.{fields_of};
+ghost use Rattle.schemas.specs.Tables.{unused};
 
 use crate::column::Column;
 use crate::found::Found;
 use crate::tables::Schema;
-use vocabulary::types::DType;
+use vocabulary::types::{DType, Kind};
 
 /// The most columns of a schema.
 pub const MAX_COLUMNS: u8 = 32;
@@ -19,7 +18,7 @@ impl Column {
     /// A column of that name and type.
     pub(crate) fn new(name: &[u8], dtype: DType) -> Column
         requires { length name.now ≤ 32 }
-        ensures { field_of result ≡ field name.now dtype }
+        ensures { result ≡ field name.now dtype }
     {
         let len = name.len();
         let mut bytes = [0u8; MAX_NAME];
@@ -30,18 +29,38 @@ impl Column {
             dtype,
         }
     }
+
+    /// What stands in a place that no column has.
+    fn unused() -> Column
+        ensures { result ≡ unused }
+    {
+        Column {
+            name: [0; MAX_NAME],
+            name_len: 0,
+            dtype: DType::new(Kind::Bool, false),
+        }
+    }
 }
 
 impl Schema {
+    /// A schema without columns.
+    pub(crate) fn new() -> Schema
+        ensures { result ≡ [] }
+    {
+        Schema {
+            columns: [Column::unused(); MAX_COLUMNS as usize],
+            count: 0,
+        }
+    }
+
     /// The place and the type of the column of that name.
     pub fn find(&self, name: &[u8]) -> Option<Found>
-        ensures { result ≡ found name.now (fields_of self.now) }
+        ensures { result ≡ found name.now self.now }
     {
-        for i in 0..self.count {
-            let column = &self.columns[i as usize];
+        for (place, column) in self.columns().iter().enumerate() {
             if column.is_named(name) {
                 return Some(Found {
-                    place: i,
+                    place: place as u8,
                     dtype: column.dtype,
                 });
             }
@@ -51,7 +70,7 @@ impl Schema {
 
     /// Whether it takes one more column, of that name and type.
     pub fn takes(&self, name: &[u8], dtype: DType) -> bool
-        ensures { result ≡ takes (fields_of self.now) (field name.now dtype) }
+        ensures { result ≡ takes self.now (field name.now dtype) }
     {
         let named = !name.is_empty() && name.len() <= MAX_NAME;
         named && dtype.is_plain() && self.count < MAX_COLUMNS && self.find(name).is_none()
@@ -59,9 +78,8 @@ impl Schema {
 
     /// One column more, behind the others. It is false, and nothing changes, where the column is not taken.
     pub(crate) fn add(&mut self, name: &[u8], dtype: DType) -> bool
-        ensures answer { result ≡ takes (fields_of self.old) (field name.now dtype) }
-        ensures after { fields_of self.new
-            ≡ grown result (fields_of self.old) (field name.now dtype) }
+        ensures answer { result ≡ takes self.old (field name.now dtype) }
+        ensures after { self.new ≡ grown result self.old (field name.now dtype) }
     {
         if !self.takes(name, dtype) {
             return false;

@@ -3,7 +3,6 @@ ghost use Rattle.std.specs.Result.{result_map_both};
 ghost use Rattle.vocabulary.specs.declared.refusals.Refusal.TheVariants.{Memory};
 ghost use Rattle.schemas.specs.AllSchemas.{numbered, in_schema, sought, added, after};
 ghost use Rattle.schemas.specs.Fields.{field};
-ghost use Rattle.schemas.specs.Tables.{fields_of, all_fields};
 
 use crate::found::Found;
 use crate::tables::{Schema, Schemas};
@@ -27,8 +26,8 @@ fn index_of(schema: u8) -> Result<usize, MemoryRefusal>
 impl Schemas {
     /// The schema of that number, or the refusal of the number.
     fn at(&self, schema: u8) -> Result<&Schema, MemoryRefusal>
-        ensures { result_map_both (λ s. fields_of s.now) Memory result
-            ≡ in_schema schema Ok (all_fields self.now) }
+        ensures { result_map_both (λ s. s.now) Memory result
+            ≡ in_schema schema Ok self.now }
     {
         let at = index_of(schema)?;
         Ok(&self.table[at])
@@ -36,8 +35,8 @@ impl Schemas {
 
     /// The schema of that number.
     pub fn schema(&self, schema: u8) -> Result<&Schema, Refusal>
-        ensures { result_map_both (λ s. fields_of s.now) (λ e. e) result
-            ≡ in_schema schema Ok (all_fields self.now) }
+        ensures { result_map_both (λ s. s.now) (λ e. e) result
+            ≡ in_schema schema Ok self.now }
     {
         let found = self.at(schema)?;
         Ok(found)
@@ -45,15 +44,15 @@ impl Schemas {
 
     /// The table of all schemas.
     fn all(&self) -> &[Schema]
-        ensures counted { length result.now ≡ length (all_fields self.now) }
+        ensures counted { length result.now ≡ length self.now }
         ensures eight { length result.now ≡ 8 }
     {
-        &self.table[0..]
+        &self.table[..]
     }
 
     /// How many schemas there are, those without columns included.
     pub fn len(&self) -> usize
-        ensures value { result ≡ length (all_fields self.now) }
+        ensures value { result ≡ length self.now }
         ensures eight { result ≡ 8 }
     {
         self.all().len()
@@ -61,7 +60,7 @@ impl Schemas {
 
     /// The place and the type of a schema's column of that name.
     pub fn find(&self, schema: u8, name: &[u8]) -> Result<Option<Found>, Refusal>
-        ensures { result ≡ sought schema name.now (all_fields self.now) }
+        ensures { result ≡ sought schema name.now self.now }
     {
         let found = self.at(schema)?;
         Ok(found.find(name))
@@ -69,9 +68,9 @@ impl Schemas {
 
     /// Adds a column behind the others of its schema, and answers its place.
     pub(crate) fn add(&mut self, schema: u8, name: &[u8], dtype: DType) -> Result<u8, Refusal>
-        ensures answer { result ≡ added schema (field name.now dtype) (all_fields self.old) }
-        ensures after { all_fields self.new
-            ≡ after result schema (field name.now dtype) (all_fields self.old) }
+        ensures answer { result ≡ added schema (field name.now dtype) self.old }
+        ensures after { self.new
+            ≡ after result schema (field name.now dtype) self.old }
     {
         let at = index_of(schema)?;
         let target = &mut self.table[at];

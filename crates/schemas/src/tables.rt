@@ -1,22 +1,43 @@
-ghost use Rattle.std.specs.Prelude.{◌≡◌, ◌≤◌, true, map, length, take};
-ghost use Rattle.schemas.specs.Declarations.{declared};
-ghost use Rattle.schemas.specs.Headings.{field_of};
-
 use crate::column::Column;
+use std::marker::Model;
 
 /// A schema: a table of columns, filled from the front.
 #[derive(Clone, Copy)]
 pub struct Schema {
     pub(crate) columns: [Column; 32],
     pub(crate) count: u8,
-    ghost few: { count ≤ 32 },
-    ghost whole: { length columns ≡ 32 },
-    ghost counted: { length (map field_of (take count columns)) ≡ count },
-    ghost sound: { declared (map field_of (take count columns)) ≡ true },
+}
+
+impl Model for Schema {
+    ghost use Rattle.std.specs.Prelude.{List};
+    ghost use Rattle.schemas.specs.Fields.{Field};
+
+    ghost Value = { List Field };
+
+    ghost use Rattle.schemas.specs.Tables.{columns_of, table_of, DeclaredOneByOne, restored};
+
+    ghost view = { columns_of };
+
+    ghost invariant = { DeclaredOneByOne };
+
+    ghost inverse = { table_of };
+
+    ghost inverse_ok = { restored };
 }
 
 /// The eight schemas, as they stand once declaring has ended.
 #[derive(Clone, Copy)]
 pub struct Schemas {
     pub(crate) table: [Schema; 8],
+}
+
+impl Model for Schemas {
+    ghost use Rattle.std.specs.Prelude.{List};
+    ghost use Rattle.schemas.specs.Fields.{Field};
+
+    ghost Value = { List (List Field) };
+
+    ghost view = { λ a. a.table };
+
+    ghost inverse = { λ fss. record { table = fss } };
 }

@@ -1,18 +1,11 @@
+use crate::answers::{number_of, told};
 use schemas::declaring::Declaring;
 use std::test::Fail;
-use vocabulary::refusals::{Place, Refusal};
+use vocabulary::refusals::Place;
 use vocabulary::types::{DType, Kind};
 
 fn i64_type() -> DType {
     DType::new(Kind::I64, false)
-}
-
-/// The number and the place of a refusal; 0 and nothing where the call was granted.
-fn told(answer: Result<u8, Refusal>) -> (u8, Place) {
-    match answer {
-        Ok(_) => (0, Place::Nothing),
-        Err(refusal) => (refusal.number(), refusal.place()),
-    }
 }
 
 #[test]
@@ -38,12 +31,9 @@ fn a_column_is_found_at_its_place(rt: HostRuntime) -> Result<(), Fail> {
 #[test]
 fn a_schema_above_7_is_refused_before_any_other_cause(rt: HostRuntime) {
     let mut declaring = Declaring::new();
-    let (number, place) = told(declaring.add_column(8, b"", DType::new(Kind::Row(0), false)));
-    assert!(rt; number == 3);
-    assert!(rt; matches!(place, Place::Asked(8)));
-    assert!(rt;
-        matches!(declaring.finish().find(255, b"x"), Err(refusal) if refusal.number() == 3)
-    );
+    let answer = told(declaring.add_column(8, b"", DType::new(Kind::Row(0), false)));
+    assert_eq!(rt; answer, Some((3, Place::Asked(8))));
+    assert_eq!(rt; number_of(declaring.finish().find(255, b"x")), Some(3));
 }
 
 #[test]
@@ -52,16 +42,15 @@ fn a_schema_takes_32_columns(rt: HostRuntime) {
     for i in 0..32u8 {
         assert!(rt; declaring.add_column(7, &[b'c', i], i64_type()).is_ok());
     }
-    let (number, place) = told(declaring.add_column(7, b"one more", i64_type()));
-    assert!(rt; number == 2);
-    assert!(rt;
-        matches!(
-            place,
+    assert_eq!(rt;
+        told(declaring.add_column(7, b"one more", i64_type())),
+        Some((
+            2,
             Place::SchemaColumn {
                 schema: 7,
                 column: 32
             }
-        )
+        ))
     );
     assert!(rt; declaring.add_column(6, b"one more", i64_type()).is_ok());
 }
@@ -69,27 +58,44 @@ fn a_schema_takes_32_columns(rt: HostRuntime) {
 #[test]
 fn names_have_1_to_32_bytes_and_stand_once(rt: HostRuntime) {
     let mut declaring = Declaring::new();
-    assert!(rt; told(declaring.add_column(0, b"", i64_type())).0 == 2);
-    assert!(rt; told(declaring.add_column(0, &[b'n'; 32], i64_type())).0 == 0);
-    assert!(rt; told(declaring.add_column(0, &[b'n'; 33], i64_type())).0 == 2);
-    let (number, place) = told(declaring.add_column(0, &[b'n'; 32], i64_type()));
-    assert!(rt; number == 2);
-    assert!(rt;
-        matches!(
-            place,
+    assert_eq!(rt;
+        number_of(declaring.add_column(0, b"", i64_type())),
+        Some(2)
+    );
+    assert_eq!(rt;
+        number_of(declaring.add_column(0, &[b'n'; 32], i64_type())),
+        None
+    );
+    assert_eq!(rt;
+        number_of(declaring.add_column(0, &[b'n'; 33], i64_type())),
+        Some(2)
+    );
+    assert_eq!(rt;
+        told(declaring.add_column(0, &[b'n'; 32], i64_type())),
+        Some((
+            2,
             Place::SchemaColumn {
                 schema: 0,
                 column: 1
             }
-        )
+        ))
     );
 }
 
 #[test]
 fn a_column_has_a_plain_type(rt: HostRuntime) {
     let mut declaring = Declaring::new();
-    assert!(rt; told(declaring.add_column(0, b"a", DType::new(Kind::Extension(15), true))).0 == 0);
-    assert!(rt; told(declaring.add_column(0, b"b", DType::new(Kind::Extension(16), true))).0 == 2);
-    assert!(rt; told(declaring.add_column(0, b"c", DType::new(Kind::Row(0), true))).0 == 2);
-    assert!(rt; !DType::new(Kind::Row(0), true).is_nullable());
+    let extension_15 = DType::new(Kind::Extension(15), true);
+    let extension_16 = DType::new(Kind::Extension(16), true);
+    let row = DType::new(Kind::Row(0), true);
+    assert_eq!(rt;
+        number_of(declaring.add_column(0, b"a", extension_15)),
+        None
+    );
+    assert_eq!(rt;
+        number_of(declaring.add_column(0, b"b", extension_16)),
+        Some(2)
+    );
+    assert_eq!(rt; number_of(declaring.add_column(0, b"c", row)), Some(2));
+    assert!(rt; !row.is_nullable());
 }

@@ -2,6 +2,10 @@
 #![tactic(auto)]
 
 #[cfg(test)]
+mod answers;
+#[cfg(test)]
 mod declaring;
+#[cfg(test)]
+mod printing;
 #[cfg(test)]
 mod reserving;

@@ -1,13 +1,15 @@
 -- What is asked for, from the code's types to the model's.
+use Rattle.std.specs.Prelude.{ℕ, List}
+use Rattle.std.specs.Borrow.{Bor}
 use Rattle.meaning.specs.Values.{Value, null, bool, signed, unsigned, text, ext}
 use Rattle.model.specs.Wanted.{New, root, literal, get_item, cast, binary, between, host}
-use Rattle.typing.specs.declared.asking.NewLiteral.{NewLiteral}
-use Rattle.typing.specs.declared.asking.NewLiteral.TheVariants.{Null, Bool, I64, U64, Utf8, Extension}
+use Rattle.vocabulary.specs.declared.values.Value.{Value as Given}
+use Rattle.vocabulary.specs.declared.values.Value.TheVariants.{Null, Bool, I64, U64, Utf8, Extension}
 use Rattle.typing.specs.declared.asking.NewFunction.{NewFunction}
 use Rattle.typing.specs.declared.asking.NewFunction.TheVariants as asked
 
 -- the value that a literal is to hold
-abbrev pub value_of : NewLiteral → Value
+abbrev pub value_of : Given (Bor (List ℕ)) → Value
 value_of Null = null
 value_of (Bool b) = bool b
 value_of (I64 z) = signed z

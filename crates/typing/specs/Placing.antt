@@ -2,6 +2,7 @@
 use Rattle.vocabulary.specs.declared.nodes.Function.{Function}
 use Rattle.vocabulary.specs.declared.nodes.Function.TheVariants.{Root, Literal, GetItem, Cast, Binary, Between, Host}
 use Rattle.vocabulary.specs.declared.values.Span.{Span}
+use Rattle.vocabulary.specs.declared.values.Text.{Text}
 use Rattle.vocabulary.specs.declared.values.Text.TheVariants.{Arena}
 use Rattle.vocabulary.specs.declared.values.Value.{Value as Placed}
 use Rattle.vocabulary.specs.declared.values.Value.TheVariants as placed
@@ -9,7 +10,7 @@ use Rattle.meaning.specs.Values.{Value, null, bool, signed, unsigned, text, ext,
 use Rattle.model.specs.Wanted.{New, root, literal, get_item, cast, binary, between, host}
 
 -- a value with its text at that place
-abbrev pub value_at : Span → Value → Placed
+abbrev pub value_at : Span → Value → Placed Text
 value_at p null = placed.Null
 value_at p (bool b) = placed.Bool b
 value_at p (signed z) = placed.I64 z

@@ -1,17 +1,9 @@
 use vocabulary::operators::{BetweenOptions, Operator};
 use vocabulary::types::DType;
+use vocabulary::values::Value;
 
 /// The value of a literal that is asked for, a text by its bytes.
-#[derive(Clone, Copy)]
-pub enum NewLiteral<'a> {
-    Null,
-    Bool(bool),
-    I64(i64),
-    U64(u64),
-    Utf8(&'a [u8]),
-    /// The number of the Extension, and its value.
-    Extension(u8, i64),
-}
+pub type NewLiteral<'a> = Value<&'a [u8]>;
 
 /// The function of a node that is asked for, a name by its bytes.
 #[derive(Clone, Copy)]

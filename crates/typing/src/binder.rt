@@ -1,5 +1,4 @@
 ghost use Rattle.std.specs.Prelude.{◌≡◌};
-ghost use Rattle.schemas.specs.Tables.{all_fields};
 ghost use Rattle.meaning.specs.Columns.{column_type};
 ghost use Rattle.meaning.specs.Typing.{item_type};
 ghost use Rattle.meaning.specs.Values.{fits};
@@ -25,7 +24,7 @@ pub struct Binder<H: Host> {
 }
 
 impl<H: Host> Typist for Binder<H> {
-    ghost typing = { λ b. bound_typing (H.Host.meaning b.host) (all_fields b.schemas) };
+    ghost typing = { λ b. bound_typing (H.Host.meaning b.host) b.schemas };
 
     /// The host has the function, it takes so many children, and they have types that it takes.
     fn type_of(
@@ -73,11 +72,11 @@ impl<H: Host> Binder<H> {
     /// The type of the function over children of those types, if it binds.
     fn bound(&self, asked: &NewFunction<'_>, types: &[DType]) -> Option<DType>
         ensures { result ≡ asked_type (H.Host.meaning self.now.host)
-            (all_fields self.now.schemas) (new_of asked.now) types.now }
+            self.now.schemas (new_of asked.now) types.now }
     {
         match (*asked, types) {
             (NewFunction::Root(schema), []) => Some(DType::new(Kind::Row(schema), false)),
-            (NewFunction::Literal(dtype, value), []) => value.type_as(dtype),
+            (NewFunction::Literal(dtype, value), []) => literal_type(dtype, value),
             (NewFunction::GetItem(name), [row]) => item_type(&self.schemas, name, row.kind()),
             (NewFunction::Cast(to), [from]) => cast_type(to, *from),
             (NewFunction::Binary(operator), [left, right]) => binary_type(operator, *left, *right),
@@ -92,7 +91,7 @@ impl<H: Host> Binder<H> {
 
 /// The type of a row's column of that name; nothing else has columns.
 fn item_type(schemas: &Schemas, name: &[u8], row: Kind) -> Option<DType>
-    ensures { result ≡ item_type (all_fields schemas.now) name.now row }
+    ensures { result ≡ item_type schemas.now name.now row }
 {
     match row {
         Kind::Row(schema) => column_type(schemas, schema, name),
@@ -102,7 +101,7 @@ fn item_type(schemas: &Schemas, name: &[u8], row: Kind) -> Option<DType>
 
 /// The type of a schema's column of that name.
 fn column_type(schemas: &Schemas, schema: u8, name: &[u8]) -> Option<DType>
-    ensures { result ≡ column_type (all_fields schemas.now) schema name.now }
+    ensures { result ≡ column_type schemas.now schema name.now }
 {
     // Kept: the look-up refuses these too, but only this test tells the proof how many schemas there are.
     if usize::from(schema) >= schemas.len() {
@@ -112,29 +111,13 @@ fn column_type(schemas: &Schemas, schema: u8, name: &[u8]) -> Option<DType>
     Some(found.dtype)
 }
 
-impl NewLiteral<'_> {
-    /// The type of the literal, where it is plain and the value is one of its values.
-    fn type_as(self, dtype: DType) -> Option<DType>
-        ensures { result ≡ literal_type dtype (value_of self.entry) }
-    {
-        if self.fits(dtype) && dtype.is_plain() {
-            Some(dtype)
-        } else {
-            None
-        }
-    }
-
-    /// Whether it is among the values of a type.
-    fn fits(self, dtype: DType) -> bool
-        ensures { result ≡ fits (value_of self.entry) dtype }
-    {
-        match self {
-            NewLiteral::Null => dtype.is_nullable(),
-            NewLiteral::Bool(_) => dtype.kind() == Kind::Bool,
-            NewLiteral::I64(_) => dtype.kind() == Kind::I64,
-            NewLiteral::U64(_) => dtype.kind() == Kind::U64,
-            NewLiteral::Utf8(_) => dtype.kind() == Kind::Utf8,
-            NewLiteral::Extension(e, _) => dtype.kind() == Kind::Extension(e),
-        }
+/// The type of a literal, where it is plain and the value is one of its values.
+fn literal_type(dtype: DType, value: NewLiteral<'_>) -> Option<DType>
+    ensures { result ≡ literal_type dtype (value_of value.entry) }
+{
+    if value.fits(dtype) && dtype.is_plain() {
+        Some(dtype)
+    } else {
+        None
     }
 }

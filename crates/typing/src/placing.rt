@@ -13,7 +13,7 @@ impl<'a> NewFunction<'a> {
         ensures { result.now ≡ new_bytes (new_of self.entry) }
     {
         match self {
-            NewFunction::Literal(_, NewLiteral::Utf8(text)) => text,
+            NewFunction::Literal(_, Value::Utf8(text)) => text,
             NewFunction::GetItem(name) => name,
             _ => &[],
         }
@@ -25,7 +25,7 @@ impl<'a> NewFunction<'a> {
     {
         match self {
             NewFunction::Root(_) => Function::Root,
-            NewFunction::Literal(dtype, value) => Function::Literal(dtype, value.placed(span)),
+            NewFunction::Literal(dtype, value) => Function::Literal(dtype, placed(value, span)),
             NewFunction::GetItem(_) => Function::GetItem(span),
             NewFunction::Cast(dtype) => Function::Cast(dtype),
             NewFunction::Binary(operator) => Function::Binary(operator),
@@ -35,18 +35,9 @@ impl<'a> NewFunction<'a> {
     }
 }
 
-impl NewLiteral<'_> {
-    /// The value as it is recorded, with its text at that place.
-    fn placed(self, span: Span) -> Value
-        ensures { result ≡ value_at span (value_of self.entry) }
-    {
-        match self {
-            NewLiteral::Null => Value::Null,
-            NewLiteral::Bool(b) => Value::Bool(b),
-            NewLiteral::I64(x) => Value::I64(x),
-            NewLiteral::U64(x) => Value::U64(x),
-            NewLiteral::Utf8(_) => Value::Utf8(Text::Arena(span)),
-            NewLiteral::Extension(e, x) => Value::Extension(e, x),
-        }
-    }
+/// The value as it is recorded, with its text at that place.
+fn placed(value: NewLiteral<'_>, span: Span) -> Value
+    ensures { result ≡ value_at span (value_of value.entry) }
+{
+    value.map(|_| Text::Arena(span))
 }

@@ -3,29 +3,21 @@ ghost use Rattle.vocabulary.specs.Orders.{InvertingNegates, SwappingExchangesSid
 ghost use Rattle.vocabulary.specs.Types.{AlikeIsOneKind};
 
 /// Types are alike just where their kinds are equal.
-pub fn alike_is_one_kind() -> u8
+pub fn alike_is_one_kind()
     ensures { AlikeIsOneKind }
-{
-    0
-}
+{}
 
 /// A refusal's number tells its layer, and there are refusals of all numbers from 1 to 18.
-pub fn numbers_tell_layers() -> u8
+pub fn numbers_tell_layers()
     ensures { NumbersTellLayers }
-{
-    0
-}
+{}
 
 /// A swapped comparison holds of the operands exchanged, and what is swapped swaps back.
-pub fn swapping_exchanges_sides() -> u8
+pub fn swapping_exchanges_sides()
     ensures { SwappingExchangesSides }
-{
-    0
-}
+{}
 
 /// An inverse holds just where its comparison does not, and what is inverted inverts back.
-pub fn inverting_negates() -> u8
+pub fn inverting_negates()
     ensures { InvertingNegates }
-{
-    0
-}
+{}

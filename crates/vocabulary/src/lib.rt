@@ -6,8 +6,6 @@ pub mod laws;
 pub mod nodes;
 pub mod operators;
 pub mod refusals;
-pub mod texts;
 pub mod traversal;
 pub mod types;
-pub mod unbound;
 pub mod values;

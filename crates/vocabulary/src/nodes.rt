@@ -1,5 +1,5 @@
 ghost use Rattle.std.specs.Prelude.{◌≡◌, min, length, Some, None};
-ghost use Rattle.vocabulary.specs.Nodes.{padded, recorded, child_at, text_of};
+ghost use Rattle.vocabulary.specs.Nodes.{padded, recorded, child_at, text_of, untyped};
 
 use crate::operators::*;
 use crate::types::*;
@@ -28,20 +28,23 @@ pub enum Function {
     Host(u16),
 }
 
-/// The record of a node in an arena.
+/// The record of a node in an arena, with its type.
 #[derive(Clone, Copy)]
-pub struct Node {
+pub struct Node<T = DType> {
     pub function: Function,
     /// The numbers of the children; those behind `child_count` are zero.
     // Eight places and a count, since a record takes no memory beyond the arena's own.
     pub children: [u32; 8],
     pub child_count: u8,
-    pub dtype: DType,
+    pub dtype: T,
     /// Nodes on the longest path down.
     pub depth: u16,
     /// Nodes of the whole tree, each as often as it stands there.
     pub size: u16,
 }
+
+/// The record of an unbound node: it has no type, and so a Root no schema.
+pub type UnboundNode = Node<()>;
 
 /// The first eight of the children, with zeros behind them.
 fn first_children(children: &[u32]) -> [u32; 8]
@@ -53,9 +56,9 @@ fn first_children(children: &[u32]) -> [u32; 8]
     kept
 }
 
-impl Node {
+impl<T: Copy> Node<T> {
     /// A record over the children, at most eight, with zeros behind them.
-    pub fn new(function: Function, children: &[u32], dtype: DType, depth: u16, size: u16) -> Node
+    pub fn new(function: Function, children: &[u32], dtype: T, depth: u16, size: u16) -> Node<T>
         ensures { result ≡ recorded function children.now (length children.now) dtype depth size }
     {
         Node {
@@ -87,6 +90,22 @@ impl Node {
             Function::Literal(_, Value::Utf8(Text::Arena(span))) => Some(span),
             Function::GetItem(span) => Some(span),
             _ => None,
+        }
+    }
+}
+
+impl Node {
+    /// The record without its type.
+    pub fn untyped(&self) -> UnboundNode
+        ensures { result ≡ untyped self.now }
+    {
+        Node {
+            function: self.function,
+            children: self.children,
+            child_count: self.child_count,
+            dtype: (),
+            depth: self.depth,
+            size: self.size,
         }
     }
 }

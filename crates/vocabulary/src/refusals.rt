@@ -1,69 +1,94 @@
-ghost use Rattle.std.specs.Prelude.{◌≡◌};
+ghost use Rattle.std.specs.Prelude.{◌≡◌, Some};
+ghost use Rattle.vocabulary.specs.Printed.{layer_name};
 ghost use Rattle.vocabulary.specs.declared.refusals.Refusal.TheVariants.{Memory, Binding, Walk, Rules, Evaluation};
 ghost use Rattle.vocabulary.specs.Refusals.{number_of, layer_of, place_of};
 
+use std::{error, fmt};
+use thiserror::Error;
+
 /// What memory refuses.
-#[derive(Clone, Copy)]
+#[derive(Clone, Copy, Debug, Error)]
 pub enum MemoryRefusal {
     /// The memory asked for is outside the limits of an arena.
+    #[error("memory outside its limits")]
     OutsideLimits,
     /// The machine has not the memory asked for.
+    #[error("memory outside its limits")]
     NoHeap,
     /// No node has the number asked.
+    #[error("no such node or schema, asked {0}")]
     NoSuchNode(u32),
     /// No schema has the number asked.
+    #[error("no such node or schema, asked {0}")]
     NoSuchSchema(u8),
+    #[error("records full, node {0}")]
     RecordsFull(u32),
+    #[error("text full, node {0}")]
     TextFull(u32),
     /// The work or the results memory lent to the call is too short.
+    #[error("work or results memory short, node {0}")]
     WorkShort(u32),
 }
 
 /// What binding refuses, of a column or of a node.
-#[derive(Clone, Copy)]
+#[derive(Clone, Copy, Debug, Error)]
 pub enum BindingRefusal {
     /// A column breaks a rule; it would have had that place in the schema.
+    #[error("a column breaks a rule, schema {schema}, column {column}")]
     BadColumn { schema: u8, column: u8 },
+    #[error("no such host code, node {0}")]
     NoSuchCode(u32),
+    #[error("wrong child count, node {0}")]
     WrongChildCount(u32),
     /// Types or a name do not bind, or a null is of a type that is not nullable.
+    #[error("types or a name do not bind, or a null of a type that is not nullable, node {0}")]
     DoesNotBind(u32),
+    #[error("too deep, node {0}")]
     TooDeep(u32),
+    #[error("too large, node {0}")]
     TooLarge(u32),
 }
 
 /// What a walk refuses.
-#[derive(Clone, Copy)]
+#[derive(Clone, Copy, Debug, Error)]
 pub enum WalkRefusal {
     /// A rewrite's path is over 256 nodes, or it made over 65,535 visits on the way down.
+    #[error("a rewrite's path over 256 nodes, or over 65535 visits on the way down, node {0}")]
     TooLong(u32),
     /// A visitor or a rewriter faulted at the node, with that code.
+    #[error("visitor's or rewriter's fault, node {node}, code {code}")]
     VisitorFault { node: u32, code: u16 },
 }
 
 /// What the rules refuse.
-#[derive(Clone, Copy)]
+#[derive(Clone, Copy, Debug, Error)]
 pub enum RulesRefusal {
     /// A hundred rounds changed the node, and one more would.
+    #[error("a 101st changing round, node {0}")]
     TooManyRounds(u32),
 }
 
 /// What evaluation refuses.
-#[derive(Clone, Copy)]
+#[derive(Clone, Copy, Debug, Error)]
 pub enum EvaluationRefusal {
     /// The first Root that is of another schema than the row.
+    #[error("a root of another schema, or a row value that does not fit, node {0}")]
     OtherSchema(u32),
     /// The first column whose value does not fit, is missing or is one too many.
+    #[error("a root of another schema, or a row value that does not fit, column {0}")]
     UnfitValue(u8),
     /// A result outside its kind, or a zero divisor.
+    #[error("arithmetic fault, node {0}")]
     Arithmetic(u32),
+    #[error("unlike types compared, node {0}")]
     UnlikeTypes(u32),
     /// A function of the host faulted at the node, with that code.
+    #[error("host fault, node {node}, code {code}")]
     HostFault { node: u32, code: u16 },
 }
 
 /// Why a call was refused.
-#[derive(Clone, Copy)]
+#[derive(Clone, Copy, Debug)]
 pub enum Refusal {
     Memory(MemoryRefusal),
     Binding(BindingRefusal),
@@ -83,7 +108,7 @@ pub enum Layer {
 }
 
 /// What a refusal names besides its number.
-#[derive(Clone, Copy)]
+#[derive(Clone, Copy, Debug, PartialEq, Eq)]
 pub enum Place {
     Nothing,
     SchemaColumn { schema: u8, column: u8 },
@@ -94,6 +119,7 @@ pub enum Place {
     NodeCode { node: u32, code: u16 },
 }
 
+// By hand: a derived `From` has no contract, and contracts name the refusal that a `?` makes.
 impl From<MemoryRefusal> for Refusal {
     ghost from_gives = { λ e r. r ≡ Memory e };
 
@@ -153,7 +179,7 @@ impl MemoryRefusal {
         match self {
             MemoryRefusal::OutsideLimits | MemoryRefusal::NoHeap => Place::Nothing,
             MemoryRefusal::NoSuchNode(asked) => Place::Asked(asked),
-            MemoryRefusal::NoSuchSchema(asked) => Place::Asked(asked as u32),
+            MemoryRefusal::NoSuchSchema(asked) => Place::Asked(u32::from(asked)),
             MemoryRefusal::RecordsFull(node)
             | MemoryRefusal::TextFull(node)
             | MemoryRefusal::WorkShort(node) => Place::Node(node),
@@ -259,3 +285,35 @@ impl Refusal {
         }
     }
 }
+
+impl fmt::Display for Layer {
+    ghost output = { λ l. Some (layer_name l) };
+
+    fn fmt<W: fmt::Write>(&self, f: &mut fmt::Formatter<W>) -> fmt::Result {
+        match self {
+            Layer::Memory => write!(f, "memory"),
+            Layer::Binding => write!(f, "binding"),
+            Layer::Walk => write!(f, "walk"),
+            Layer::Rules => write!(f, "rules"),
+            Layer::Evaluation => write!(f, "evaluation"),
+        }
+    }
+}
+
+/// In words: its number, its layer, its cause and what it names.
+impl fmt::Display for Refusal {
+    fn fmt<W: fmt::Write>(&self, f: &mut fmt::Formatter<W>) -> fmt::Result {
+        let number = self.number();
+        let layer = self.layer();
+        write!(f, "refused {number} ({layer}): ")?;
+        match self {
+            Refusal::Memory(cause) => write!(f, "{cause}"),
+            Refusal::Binding(cause) => write!(f, "{cause}"),
+            Refusal::Walk(cause) => write!(f, "{cause}"),
+            Refusal::Rules(cause) => write!(f, "{cause}"),
+            Refusal::Evaluation(cause) => write!(f, "{cause}"),
+        }
+    }
+}
+
+impl error::Error for Refusal {}

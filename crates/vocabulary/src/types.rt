@@ -1,5 +1,8 @@
-ghost use Rattle.std.specs.Prelude.{◌≡◌};
+ghost use Rattle.std.specs.Prelude.{◌≡◌, Some};
+ghost use Rattle.vocabulary.specs.Printed.{kind_name, type_name};
 ghost use Rattle.vocabulary.specs.Types.{alike, type_of, is_plain};
+
+use std::fmt;
 
 /// What a type's values are, null apart.
 #[derive(Clone, Copy, PartialEq, Eq)]
@@ -64,5 +67,32 @@ impl DType {
             Kind::Extension(e) => e <= 15,
             _ => true,
         }
+    }
+}
+
+/// Its name, with the number that it carries in brackets.
+impl fmt::Display for Kind {
+    ghost output = { λ k. Some (kind_name k) };
+
+    fn fmt<W: fmt::Write>(&self, f: &mut fmt::Formatter<W>) -> fmt::Result {
+        match self {
+            Kind::Bool => write!(f, "Bool"),
+            Kind::I64 => write!(f, "I64"),
+            Kind::U64 => write!(f, "U64"),
+            Kind::Utf8 => write!(f, "Utf8"),
+            Kind::Extension(number) => write!(f, "Extension({number})"),
+            Kind::Row(number) => write!(f, "Row({number})"),
+        }
+    }
+}
+
+/// Its kind, and a question mark behind it if it is nullable.
+impl fmt::Display for DType {
+    ghost output = { λ t. Some (type_name t) };
+
+    fn fmt<W: fmt::Write>(&self, f: &mut fmt::Formatter<W>) -> fmt::Result {
+        let kind = self.kind;
+        let mark = if self.nullable { "?" } else { "" };
+        write!(f, "{kind}{mark}")
     }
 }

@@ -1,5 +1,5 @@
 ghost use Rattle.std.specs.Prelude.{◌≡◌};
-ghost use Rattle.vocabulary.specs.Values.{is_within, fitting};
+ghost use Rattle.vocabulary.specs.Values.{is_within, fitting, IfText, WithText};
 
 use crate::types::*;
 
@@ -26,19 +26,19 @@ pub enum Text {
     Row(Span),
 }
 
-/// A value, null included. A text is held by its place.
+/// A value, null included. A text is held by its place, if nothing else is said.
 #[derive(Clone, Copy)]
-pub enum Value {
+pub enum Value<T = Text> {
     Null,
     Bool(bool),
     I64(i64),
     U64(u64),
-    Utf8(Text),
+    Utf8(T),
     /// The number of the Extension, and its value.
     Extension(u8, i64),
 }
 
-impl Value {
+impl<T: Copy> Value<T> {
     /// Whether it is among the type's values: null only of a nullable type, any other by its kind.
     pub fn fits(self, dtype: DType) -> bool
         ensures { result ≡ fitting self dtype }
@@ -50,6 +50,23 @@ impl Value {
             Value::U64(_) => dtype.kind == Kind::U64,
             Value::Utf8(_) => dtype.kind == Kind::Utf8,
             Value::Extension(e, _) => dtype.kind == Kind::Extension(e),
+        }
+    }
+}
+
+impl<T> Value<T> {
+    /// The value with another text in place of its own, if it has one.
+    pub fn map<U, F: FnOnce(T) -> U>(self, other: F) -> Value<U>
+        requires { IfText self (F.pre other) }
+        ensures { WithText (F.post other) self result }
+    {
+        match self {
+            Value::Null => Value::Null,
+            Value::Bool(b) => Value::Bool(b),
+            Value::I64(x) => Value::I64(x),
+            Value::U64(x) => Value::U64(x),
+            Value::Utf8(text) => Value::Utf8(other(text)),
+            Value::Extension(e, x) => Value::Extension(e, x),
         }
     }
 }

@@ -7,74 +7,54 @@ ghost use Rattle.meaning.specs.LawsOfEvaluating.{FittingRowsMatchColumns, ItemsR
 ghost use Rattle.meaning.specs.LawsOfHosts.{HostTextsAreArguments, HostFaultsHaveTheirNumber};
 
 /// A value fits the type of its expression.
-pub fn values_fit() -> u8
+pub fn values_fit()
     ensures { ValuesFit }
-{
-    0
-}
+{}
 
 /// An expression that binds never faults as malformed.
-pub fn bound_trees_are_well_formed() -> u8
+pub fn bound_trees_are_well_formed()
     ensures { BoundTreesAreWellFormed }
-{
-    0
-}
+{}
 
 /// An expression without fallible nodes has a value.
-pub fn infallible_has_value() -> u8
+pub fn infallible_has_value()
     ensures { InfallibleHasValue }
-{
-    0
-}
+{}
 
 /// The path that comes with a fault leads to the node that faults.
-pub fn places_name_the_fault() -> u8
+pub fn places_name_the_fault()
     ensures { PlacesNameTheFault }
-{
-    0
-}
+{}
 
 /// A whole row is the value of a Root alone, and each GetItem is one of a Root.
-pub fn rows_stand_at_roots() -> u8
+pub fn rows_stand_at_roots()
     ensures rows { RowsAreRoots }
     ensures items { ItemsAreOfRoots }
-{
-    0
-}
+{}
 
 /// A row fits if it has one value per column, each fitting its own; it makes a fitting environment.
-pub fn rows_fit() -> u8
+pub fn rows_fit()
     ensures columns { FittingRowsMatchColumns }
     ensures environment { RowsFit }
-{
-    0
-}
+{}
 
 /// A GetItem has a fitting value, the one at its column's place in the row.
-pub fn items_read_the_row() -> u8
+pub fn items_read_the_row()
     ensures fit { ItemsFit }
     ensures place { ItemsReadTheirPlace }
-{
-    0
-}
+{}
 
 /// Schemas declared column by column have plain columns, as these laws ask.
-pub fn declared_columns_are_plain() -> u8
+pub fn declared_columns_are_plain()
     ensures { DeclaredColumnsArePlain }
-{
-    0
-}
+{}
 
 /// A text that a host gives is that of an argument.
-pub fn host_texts_are_arguments() -> u8
+pub fn host_texts_are_arguments()
     ensures { HostTextsAreArguments }
-{
-    0
-}
+{}
 
 /// A call that binds faults as the host's alone.
-pub fn host_faults_have_their_number() -> u8
+pub fn host_faults_have_their_number()
     ensures { HostFaultsHaveTheirNumber }
-{
-    0
-}
+{}

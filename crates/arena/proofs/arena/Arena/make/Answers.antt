@@ -1,6 +1,5 @@
 use Rattle.std.proofs.Common.{ℕ, length, Result, refl, ap, ◌∙◌}
 use Rattle.vocabulary.specs.declared.refusals.Refusal.{Refusal}
-use Rattle.schemas.specs.Tables.{all_fields}
 use Rattle.model.specs.Stores.{Store}
 use Rattle.typing.specs.Asked.{new_of}
 use Rattle.arena.specs.Opened.{opened}
@@ -16,7 +15,7 @@ returns g c =
     c.in_ok-check_schema.ensures
     in
     record {
-      answer = c.make.ensures.answer (all_fields ss) ∙ ap (λ (z : Result ℕ Refusal × Store). z.0) made;
-      after = c.make.ensures.after (all_fields ss) ∙ ap (λ (z : Result ℕ Refusal × Store). z.1) made;
+      answer = c.make.ensures.answer ss ∙ ap (λ (z : Result ℕ Refusal × Store). z.0) made;
+      after = c.make.ensures.after ss ∙ ap (λ (z : Result ℕ Refusal × Store). z.1) made;
       binder = refl;
     }

@@ -1,6 +1,5 @@
 use Rattle.std.proofs.Common.{ℕ, length, Result, refl, ap, ◌∙◌}
 use Rattle.vocabulary.specs.declared.refusals.Refusal.{Refusal}
-use Rattle.schemas.specs.Tables.{all_fields}
 use Rattle.model.specs.Stores.{Store}
 use Rattle.arena.specs.Opened.{opened}
 use Rattle.arena.proofs.AsModelled.{rebuilds_bound}
@@ -14,7 +13,7 @@ returns g c =
     rebuilds_bound m c.args.node c.args.children.now (length c.args.children.now) (opened ss c.args.self.now.memory)
     in
     record {
-      answer = c.rebuild.ensures.answer (all_fields ss) ∙ ap (λ (z : Result ℕ Refusal × Store). z.0) anew;
-      after = c.rebuild.ensures.after (all_fields ss) ∙ ap (λ (z : Result ℕ Refusal × Store). z.1) anew;
+      answer = c.rebuild.ensures.answer ss ∙ ap (λ (z : Result ℕ Refusal × Store). z.0) anew;
+      after = c.rebuild.ensures.after ss ∙ ap (λ (z : Result ℕ Refusal × Store). z.1) anew;
       binder = refl;
     }

@@ -1,5 +1,4 @@
 use Rattle.std.proofs.Common.{[], ◌∷◌, length, sym, subst}
-use Rattle.schemas.specs.Tables.{all_fields}
 use Rattle.model.specs.LawsOfMaking.{Grows}
 use Rattle.model.specs.Steps.{makes}
 use Rattle.model.specs.Stores.{Store}
@@ -20,7 +19,7 @@ invariant_of-self g c =
     (steps_only_add m s (makes (new_of c.args.function) c.args.children.now (length c.args.children.now) ∷ []))
     in
     let marked =
-    still_marked (all_fields a.arena.now.binder.schemas) (all_fields later.binder.schemas)
+    still_marked a.arena.now.binder.schemas later.binder.schemas
     a.arena.now.memory later.memory a.nodes a.text grows
     (record { fewer = a.fewer; shorter = a.shorter; before = a.before })
     in

@@ -1,5 +1,4 @@
 use Rattle.std.proofs.Common.{refl}
-use Rattle.schemas.specs.Tables.{all_fields}
 use Rattle.arena.proofs.Kept.{cut_marked}
 use Rattle.arena.proofs.attempt.Attempt.take_back.Goals as goal
 
@@ -15,6 +14,6 @@ invariant_of-self g c =
 
 pub returns : goal.returns
 returns g c = record {
-  after = c.cut.ensures.after (all_fields c.args.self.arena.now.binder.schemas);
+  after = c.cut.ensures.after c.args.self.arena.now.binder.schemas;
   binder = refl;
 }

@@ -1,6 +1,6 @@
 use Rattle.std.proofs.Common.{Ok, vec_items, Option, sym, ap, ◌∙◌, arith}
 use Rattle.std.specs.Option.{ok_or}
-use Rattle.vocabulary.specs.declared.nodes.Node.{Node}
+use Rattle.vocabulary.specs.Nodes.{BoundNode as Node}
 use Rattle.vocabulary.specs.declared.refusals.MemoryRefusal.TheVariants.{NoSuchNode}
 use Rattle.arena.proofs.Numbered.{node_made, node_not_made}
 use Rattle.arena.proofs.memory.Memory.node.Goals as goal

@@ -1,10 +1,11 @@
 use Rattle.std.proofs.Common.{◌≡◌, reverse, Some, None, Ok, Err, vec_items, Option, Result, sym, refl, ap, ◌∙◌, Bor}
 use Rattle.std.specs.Option.{option_map, ok_or}
 use Rattle.std.specs.Result.{result_map_both as both}
-use Rattle.vocabulary.specs.declared.nodes.Node.{Node}
+use Rattle.vocabulary.specs.Nodes.{BoundNode as Node}
 use Rattle.vocabulary.specs.declared.refusals.MemoryRefusal.{MemoryRefusal}
 use Rattle.vocabulary.specs.declared.refusals.MemoryRefusal.TheVariants.{NoSuchNode}
-use Rattle.model.specs.Unbound.{UnboundNode, UnboundStore, unbound_at, untyped}
+use Rattle.vocabulary.specs.Nodes.{UnboundNode, untyped}
+use Rattle.model.specs.Unbound.{UnboundStore, unbound_at}
 use Rattle.model.specs.Stores.{node_among}
 use Rattle.arena.proofs.AsUnbound.{among_untyped}
 use Rattle.arena.proofs.unbound.UnboundArena.node.Goals as goal
