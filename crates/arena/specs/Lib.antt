@@ -1,3 +1,4 @@
+pub mod ArenaModel
 pub mod Bound
 pub mod Building
 pub mod Drafting

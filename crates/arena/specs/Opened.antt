@@ -1,6 +1,5 @@
--- An arena's parts as the value that its calls are defined on.
+-- An arena's parts as values.
 use Rattle.std.specs.Prelude.{reverse, vec_items}
-use Rattle.schemas.specs.declared.tables.Schemas.{Schemas as Declared}
 use Rattle.meaning.specs.Columns.{Schemas}
 use Rattle.model.specs.Stores.{Store}
 use Rattle.arena.specs.declared.memory.Memory.{Memory}
@@ -15,6 +14,7 @@ store ss m = record {
   bytes = m.bytes;
 }
 
--- the same over the schemas that were declared
-abbrev pub opened : Declared → Memory → Store
-opened ss m = store ss m
+-- an opened arena: the store, and the host that its nodes are bound against
+pub record Opened (H : Type 0) : Type 0 where
+  pub store : Store
+  pub host : H

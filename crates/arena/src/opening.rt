@@ -1,6 +1,5 @@
 ghost use Rattle.std.specs.Prelude.{◌≡◌, []};
 ghost use Rattle.model.specs.Stores.{empty};
-ghost use Rattle.arena.specs.Opened.{opened};
 
 use crate::arena::Arena;
 use crate::memory::Memory;
@@ -24,9 +23,8 @@ impl Memory {
 impl<H: Host> Arena<H> {
     /// Ends declaring: an arena without nodes over those schemas, with that host, in that memory.
     pub fn open(declaring: Declaring, host: H, mut memory: Memory) -> Arena<H>
-        ensures opened { opened result.binder.schemas result.memory
-            ≡ empty declaring memory.records memory.bytes }
-        ensures host { result.binder.host ≡ host }
+        ensures opened { result.store ≡ empty declaring memory.records memory.bytes }
+        ensures host { result.host ≡ host }
     {
         memory.clear();
         Arena {
