@@ -1,6 +1,6 @@
 -- What is drafted check by check is what its plan comes to.
 use Rattle.std.proofs.Common.{◌≡◌, ℕ, suc, ◌+◌, ◌≤◌, min, Bool, true, false, cond, ltb, leb, List, [], ◌∷◌, length}
-use Rattle.std.proofs.Common.{Ok, Err, vec_items, vec_len, Result, sym, refl, ap, ◌∙◌, add-one, arith, length-take}
+use Rattle.std.proofs.Common.{Ok, Err, Result, sym, refl, ap, ◌∙◌, add-one, arith, length-take}
 use Rattle.std.proofs.lemmas.List.{length-reverse}
 use Rattle.vocabulary.specs.declared.nodes.Function.{Function}
 use Rattle.vocabulary.specs.Nodes.{BoundNode as Node}
@@ -36,15 +36,14 @@ room_by place used records len more bytes =
     (Err (RecordsFull place))
 
 -- the same of the memory and of the store
-pub nodes_length : (ss : Schemas) (h : Held) → vec_len h.nodes ≡ length (store ss h).nodes
-nodes_length ss h = h.nodes.ok.0 ∙ sym (length-reverse (vec_items h.nodes))
+pub nodes_length : (ss : Schemas) (h : Held) → length h.nodes.items ≡ length (store ss h).nodes
+nodes_length ss h = sym (length-reverse h.nodes.items)
 
 room_is : (ss : Schemas) (h : Held) (place more : ℕ)
     → room_in place h more
-    ≡ room_by place (length (store ss h).nodes) h.records (length (store ss h).text) more h.bytes
+    ≡ room_by place (length (store ss h).nodes) h.nodes.limit (length (store ss h).text) more h.text.limit
 room_is ss h place more =
-    ap (λ (n : ℕ). room_by place n h.records (vec_len h.text) more h.bytes) (nodes_length ss h)
-    ∙ ap (λ (n : ℕ). room_by place (length (store ss h).nodes) h.records n more h.bytes) h.text.ok.0
+    ap (λ (n : ℕ). room_by place n h.nodes.limit (length h.text.items) more h.text.limit) (nodes_length ss h)
 
 -- what is looked up does not depend on the schemas
 looked_same : (s r : Store) → s.nodes ≡ r.nodes → (ks : List ℕ) → looked_up s ks ≡ looked_up r ks

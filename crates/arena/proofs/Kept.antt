@@ -1,5 +1,5 @@
 -- What was there before stays in front while more is made, and is what is left when that is taken back.
-use Rattle.std.proofs.Common.{◌≡◌, ℕ, ◌≤◌, true, List, reverse, length, take, vec_items, vec_len, sym, refl, ap}
+use Rattle.std.proofs.Common.{◌≡◌, ℕ, ◌≤◌, true, List, reverse, length, take, sym, refl, ap}
 use Rattle.std.proofs.Common.{◌∙◌, subst, arith, length-append, length-take}
 use Rattle.std.proofs.lemmas.List.{reverse-append, reverse-reverse, length-reverse, take-append-le, take_all}
 use Rattle.vocabulary.specs.Nodes.{BoundNode as Node}
@@ -8,6 +8,7 @@ use Rattle.model.specs.LawsOfMaking.{Grows}
 use Rattle.model.specs.Stores.{Store}
 use Rattle.arena.specs.declared.memory.Memory.{Memory as Held}
 use Rattle.arena.specs.Opened.{Opened, store}
+use Rattle.arena.specs.Rooms.{Limited}
 use Rattle.arena.specs.Standing.{all_stand}
 use Rattle.arena.specs.Trials.{taken_back}
 
@@ -34,16 +35,16 @@ still_marked s later nodes text g m =
 
 -- it holds of marks at the end of all that there is
 pub marked_at_end : (ss : Schemas) (h : Held) (s : Store) (nodes text : ℕ) → store ss h ≡ s
-    → nodes ≡ vec_len h.nodes → text ≡ vec_len h.text → Marked s nodes text
+    → nodes ≡ length h.nodes.items → text ≡ length h.text.items → Marked s nodes text
 marked_at_end ss h s nodes text e few short =
     subst (λ (z : Store). Marked z nodes text) e
-    (let xs = vec_items h.nodes in
+    (let xs = h.nodes.items in
     let whole : take nodes (reverse (reverse xs)) ≡ xs =
     ap (λ (ys : List Node). take nodes ys) (reverse-reverse xs)
-    ∙ take_all nodes xs (omega (arith, few, h.nodes.ok.0)) in
+    ∙ take_all nodes xs (omega (arith, few)) in
     record {
-      fewer = omega (arith, few, h.nodes.ok.0, length-reverse xs);
-      shorter = omega (arith, short, h.text.ok.0);
+      fewer = omega (arith, few, length-reverse xs);
+      shorter = omega (arith, short);
       before =
           ap (λ (ys : List Node). all_stand text (reverse ys)) whole
           ∙ ap (λ (k : ℕ). all_stand k (reverse xs)) short ∙ h.sound;
@@ -51,11 +52,11 @@ marked_at_end ss h s nodes text e few short =
 
 -- what stands before the marks may be cut off behind them
 pub may_cut : (ss : Schemas) (h : Held) (s : Store) (nodes text : ℕ) → store ss h ≡ s → Marked s nodes text
-    → (text ≤ vec_len h.text) × (all_stand text (reverse (take nodes (vec_items h.nodes))) ≡ true)
+    → (text ≤ length h.text.items) × (all_stand text (reverse (take nodes h.nodes.items)) ≡ true)
 may_cut ss h s nodes text e m =
     let here : Marked (store ss h) nodes text = subst (λ (z : Store). Marked z nodes text) (sym e) m in (
-      omega (arith, here.shorter, h.text.ok.0),
-      subst (λ (ys : List Node). all_stand text (reverse (take nodes ys)) ≡ true) (reverse-reverse (vec_items h.nodes))
+      omega (arith, here.shorter),
+      subst (λ (ys : List Node). all_stand text (reverse (take nodes ys)) ≡ true) (reverse-reverse h.nodes.items)
           here.before,
     )
 
@@ -83,16 +84,17 @@ taken_back_grown s later g =
     g.records g.bytes
 
 -- a memory that was cut
-pub cut_is : (ss : Schemas) (h : Held) (nodes text : ℕ) (xs : List Node) (bs : List ℕ)
-    → xs ≡ take nodes (vec_items h.nodes) → bs ≡ take text (vec_items h.text)
+pub cut_is : (ss : Schemas) (h : Held) (nodes text : ℕ) (xs : Limited Node) (bs : Limited ℕ)
+    → xs ≡ record { items = take nodes h.nodes.items; limit = h.nodes.limit }
+    → bs ≡ record { items = take text h.text.items; limit = h.text.limit }
     → ◌≡◌ {A = Store}
-    (record { schemas = ss; nodes = reverse xs; text = bs; records = h.records; bytes = h.bytes })
+    (record { schemas = ss; nodes = reverse xs.items; text = bs.items; records = xs.limit; bytes = bs.limit })
     (taken_back nodes text (store ss h))
 cut_is ss h nodes text xs bs e f =
     same_store ss ss _ _ _ _ _ _ _ _ refl
-    (ap (λ (ys : List Node). reverse ys) e
-    ∙ ap (λ (ys : List Node). reverse (take nodes ys)) (sym (reverse-reverse (vec_items h.nodes))))
-    f refl refl
+    (ap (λ (z : Limited Node). reverse z.items) e
+    ∙ ap (λ (ys : List Node). reverse (take nodes ys)) (sym (reverse-reverse h.nodes.items)))
+    (ap (λ (z : Limited ℕ). z.items) f) (ap (λ (z : Limited Node). z.limit) e) (ap (λ (z : Limited ℕ). z.limit) f)
 
 -- the marks of what was cut back to them
 pub cut_marked : (s later : Store) (nodes text : ℕ) → Marked s nodes text → later ≡ taken_back nodes text s

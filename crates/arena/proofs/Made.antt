@@ -1,5 +1,5 @@
 -- A node that is drafted is the one that making comes to.
-use Rattle.std.proofs.Common.{◌≡◌, ℕ, ◌+◌, ◌≤◌, min, true, List, ◌++◌, length, Ok, vec_len, sym, ap, ◌∙◌, subst}
+use Rattle.std.proofs.Common.{◌≡◌, ℕ, ◌≤◌, min, true, List, ◌++◌, length, Ok, sym, ◌∙◌, subst}
 use Rattle.std.proofs.Common.{length-append}
 use Rattle.vocabulary.specs.Nodes.{BoundNode as Node}
 use Rattle.vocabulary.specs.Nodes.{text_of}
@@ -35,7 +35,6 @@ module _ (ss : Schemas) (h : Held) (typing : Typing) (place : ℕ) (w : New) (cs
       let inside =
       ends_inside (s.text ++ new_bytes w) (text_of (new_function s.text w)) (new_honest any_host s w cs n).ends
       in
-      let l : length (s.text ++ new_bytes w) ≡ vec_len h.text + length (new_bytes w) =
-      length-append s.text (new_bytes w) ∙ ap (λ (k : ℕ). k + length (new_bytes w)) (sym h.text.ok.0) in
+      let l = length-append s.text (new_bytes w) in
       build_fits (typing place w n) ss h (plan_at place w cs n s) x enough
       (subst (λ (k : ℕ). ends_within k (text_of (new_function s.text w)) ≡ true) l inside) (sym (e ∙ made_is))

@@ -1,6 +1,6 @@
 -- A node that is drafted over the other children is the one that rebuilding comes to.
 use Rattle.std.proofs.Common.{◌≡◌, ℕ, zero, suc, ◌+◌, ◌≤◌, min, Bool, true, false, cond, List, [], reverse, length}
-use Rattle.std.proofs.Common.{Some, Ok, vec_items, vec_len, Option, Result, sym, refl, ap, ◌∙◌, subst, arith}
+use Rattle.std.proofs.Common.{Some, Ok, Option, Result, sym, refl, ap, ◌∙◌, subst, arith}
 use Rattle.std.proofs.lemmas.Bool.{ne_eqb}
 use Rattle.vocabulary.specs.declared.nodes.Function.{Function}
 use Rattle.vocabulary.specs.declared.nodes.Function.TheVariants.{Root, Literal, GetItem, Cast, Binary, Between, Host}
@@ -38,7 +38,7 @@ module _ (ss : Schemas) (h : Held) (typing : Typing) (k : ℕ) (x : Node) (cs : 
     (found : node_at (store ss h) k ≡ Some x) where
   -- what the node was asked for
   abbrev asked : New
-  asked = again (vec_items h.text) x.dtype x.function
+  asked = again h.text.items x.dtype x.function
 
   -- the record that it comes to
   abbrev anew : Result Node Refusal
@@ -71,8 +71,8 @@ module _ (ss : Schemas) (h : Held) (typing : Typing) (k : ℕ) (x : Node) (cs : 
   pub remade_fits : min n 8 ≤ length cs → (y : Node) → Ok y ≡ drafted typing h k asked (λ _. x.function) 0 cs n
       → FitsIn h y 0
   remade_fits enough y e =
-      let l = lies (vec_len h.text) (reverse (vec_items h.nodes)) k x h.sound found in
-      let inside = (stood (vec_len h.text) l.older x l.there).inside in
-      let z : vec_len h.text ≡ vec_len h.text + 0 = omega arith in
+      let l = lies (length h.text.items) (reverse h.nodes.items) k x h.sound found in
+      let inside = (stood (length h.text.items) l.older x l.there).inside in
+      let z : length h.text.items ≡ length h.text.items + 0 = omega arith in
       build_fits (typing k asked n) ss h (old_plan k x cs n (store ss h)) y enough
       (subst (λ (j : ℕ). ends_within j (text_of x.function) ≡ true) z inside) (sym (e ∙ remade_is))

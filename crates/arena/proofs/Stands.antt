@@ -1,6 +1,6 @@
 -- Records that are entered stand, and those before them still do.
 use Rattle.std.proofs.Common.{◌≡◌, ℕ, suc, ◌+◌, ◌<◌, ◌≤◌, min, Bool, true, false, cond, ◌&&◌, eqb, ltb, leb, List, []}
-use Rattle.std.proofs.Common.{◌∷◌, ◌++◌, reverse, length, Some, None, Ok, Err, vec_items, vec_len, Option, Result}
+use Rattle.std.proofs.Common.{◌∷◌, ◌++◌, reverse, length, Some, None, Ok, Err, Option, Result}
 use Rattle.std.proofs.Common.{sym, refl, ap, ◌∙◌, subst, arith, take, drop, replicate, length-append, length-drop}
 use Rattle.std.proofs.Common.{length-take}
 use Rattle.std.proofs.lemmas.List.{reverse-append, take_at, length-take-le}
@@ -21,6 +21,7 @@ use Rattle.model.proofs.Plans.{checked}
 use Rattle.arena.specs.declared.memory.Memory.{Memory as Held}
 use Rattle.arena.specs.Building.{sized_as, typed_over, build_by}
 use Rattle.arena.specs.Opened.{store}
+use Rattle.arena.specs.Rooms.{Limited}
 use Rattle.arena.specs.Standing.{found_among, ends_within, measures, stands, all_stand}
 use Rattle.arena.proofs.Drafts.{nodes_length}
 
@@ -185,21 +186,21 @@ built_stands p s x b enough len ends =
 
 -- there is room for a record and for bytes, and the record stands
 pub record FitsIn (h : Held) (x : Node) (more : ℕ) : Type 0 where
-  pub room : vec_len h.nodes < h.records
-  pub text_room : vec_len h.text + more ≤ h.bytes
-  pub stands_there : stands (vec_len h.text + more) (reverse (vec_items h.nodes)) x ≡ true
+  pub room : length h.nodes.items < h.nodes.limit
+  pub text_room : length h.text.items + more ≤ h.text.limit
+  pub stands_there : stands (length h.text.items + more) (reverse h.nodes.items) x ≡ true
 
 -- what a plan comes to fits
 pub build_fits : (types : List DType → Result DType BindingRefusal) (ss : Schemas) (h : Held) (p : Plan) (x : Node)
     → min p.count 8 ≤ length p.children
-    → ends_within (vec_len h.text + length p.adds) (text_of p.function) ≡ true
+    → ends_within (length h.text.items + length p.adds) (text_of p.function) ≡ true
     → build_by types p (store ss h) ≡ Ok x → FitsIn h x (length p.adds)
 build_fits types ss h p x enough ends e =
     let b = built types p (store ss h) x e in
     record {
       room = omega (arith, b.room, nodes_length ss h);
-      text_room = omega (arith, b.text_room, h.text.ok.0);
-      stands_there = built_stands p (store ss h) x b enough (vec_len h.text + length p.adds) ends;
+      text_room = b.text_room;
+      stands_there = built_stands p (store ss h) x b enough (length h.text.items + length p.adds) ends;
     }
 
 pub ends_inside : (all : List ℕ) (o : Option Span) → EndsWithin all o → ends_within (length all) o ≡ true
@@ -208,12 +209,12 @@ ends_inside all (Some p) h = le-leb (p.start + p.len) (length all) h
 
 -- all records stand after one was added behind them, and bytes behind the text
 pub added_stand : (h : Held) (xs : List Node) (len : ℕ) (x : Node) (more : List ℕ)
-    → xs ≡ vec_items h.nodes ++ (x ∷ []) → len ≡ vec_len h.text + length more
-    → stands (vec_len h.text + length more) (reverse (vec_items h.nodes)) x ≡ true
+    → xs ≡ h.nodes.items ++ (x ∷ []) → len ≡ length h.text.items + length more
+    → stands (length h.text.items + length more) (reverse h.nodes.items) x ≡ true
     → all_stand len (reverse xs) ≡ true
 added_stand h xs len x more nodes longer new =
-    let old = vec_items h.nodes in
-    let size = vec_len h.text in
+    let old = h.nodes.items in
+    let size = length h.text.items in
     ap (λ (k : ℕ). all_stand k (reverse xs)) longer
     ∙ ap (λ (zs : List Node). all_stand (size + length more) (reverse zs)) nodes
     ∙ ap (all_stand (size + length more)) (reverse-append old (x ∷ []))
@@ -227,11 +228,19 @@ same_store : (ss : Schemas) (a b : List Node) (t u : List ℕ) (r q n k : ℕ)
 same_store ss a b t u r q n k e f g h = cc
 
 -- and the store has grown by it
-pub added_grown : (ss : Schemas) (h : Held) (xs : List Node) (text : List ℕ) (x : Node) (more : List ℕ)
-    → xs ≡ vec_items h.nodes ++ (x ∷ []) → text ≡ vec_items h.text ++ more
+pub added_grown : (ss : Schemas) (h : Held) (nodes : Limited Node) (text : Limited ℕ) (x : Node) (more : List ℕ)
+    → nodes ≡ record { items = h.nodes.items ++ (x ∷ []); limit = h.nodes.limit }
+    → text ≡ record { items = h.text.items ++ more; limit = h.text.limit }
     → ◌≡◌ {A = Store}
-    (record { schemas = ss; nodes = reverse xs; text = text; records = h.records; bytes = h.bytes })
+    (record {
+      schemas = ss;
+      nodes = reverse nodes.items;
+      text = text.items;
+      records = nodes.limit;
+      bytes = text.limit;
+    })
     (grown x more (store ss h))
-added_grown ss h xs text x more nodes bytes =
+added_grown ss h nodes text x more e f =
     same_store ss _ _ _ _ _ _ _ _
-    (ap (λ (z : List Node). reverse z) nodes ∙ reverse-append (vec_items h.nodes) (x ∷ [])) bytes refl refl
+    (ap (λ (z : Limited Node). reverse z.items) e ∙ reverse-append h.nodes.items (x ∷ []))
+    (ap (λ (z : Limited ℕ). z.items) f) (ap (λ (z : Limited Node). z.limit) e) (ap (λ (z : Limited ℕ). z.limit) f)

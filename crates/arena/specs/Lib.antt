@@ -8,6 +8,7 @@ pub mod Placing
 pub mod Reading
 pub mod Rebuilding
 pub mod Reserving
+pub mod Rooms
 pub mod Standing
 pub mod Surveying
 pub mod Trials

@@ -1,5 +1,5 @@
 -- The arena of unbound trees as the value that its calls are defined on.
-use Rattle.std.specs.Prelude.{◌≡◌, true, [], reverse, vec_items}
+use Rattle.std.specs.Prelude.{◌≡◌, true, [], reverse}
 use Rattle.model.specs.Unbound.{UnboundStore}
 use Rattle.arena.specs.declared.unbound.UnboundArena.TheInside.{Inside}
 use Rattle.arena.specs.Loose.{all_loose, loosened}
@@ -11,4 +11,4 @@ nodes_and_text a = loosened (store [] a.memory)
 
 -- each of the records has the type of unbound nodes
 abbrev pub IsLoose : Inside → Type 0
-IsLoose a = all_loose (reverse (vec_items a.memory.nodes)) ≡ true
+IsLoose a = all_loose (reverse a.memory.nodes.items) ≡ true

@@ -1,4 +1,4 @@
-ghost use Rattle.std.specs.Prelude.{◌≡◌, ◌+◌, ◌<◌, ◌≤◌, true, [], ◌++◌, reverse, length, vec_len, vec_capacity};
+ghost use Rattle.std.specs.Prelude.{◌≡◌, ◌+◌, ◌<◌, ◌≤◌, true, [], reverse, length};
 ghost use Rattle.meaning.specs.Columns.{Schemas};
 ghost use Rattle.model.specs.Stores.{grown};
 ghost use Rattle.model.specs.Wanted.{new_bytes};
@@ -37,17 +37,17 @@ impl Memory {
 
     /// Records a node, with bytes behind the text, and answers its number.
     pub(crate) fn enter(&mut self, node: Node, more: &[u8]) -> u32
-        requires room { vec_len self.old.nodes < self.old.records }
-        requires text_room { vec_len self.old.text + length more.now ≤ self.old.bytes }
-        requires standing { stands (vec_len self.old.text + length more.now)
+        requires room { length self.old.nodes.items < self.old.nodes.limit }
+        requires text_room { length self.old.text.items + length more.now ≤ self.old.text.limit }
+        requires standing { stands (length self.old.text.items + length more.now)
             (reverse self.old.nodes.items) node ≡ true }
-        ensures number { result ≡ vec_len self.old.nodes }
+        ensures number { result ≡ length self.old.nodes.items }
         ensures after { (ss : Schemas) → store ss self.new
             ≡ grown node more.now (store ss self.old) }
     {
         let number = self.nodes.len() as u32;
-        append(&mut self.text, more);
-        self.nodes.push_reserved(node);
+        self.text.extend(more);
+        self.nodes.push(node);
         number
     }
 
@@ -110,14 +110,4 @@ impl Bound {
     {
         Node::new(function, children, self.dtype, self.depth, self.size)
     }
-}
-
-/// Puts bytes behind a text that has room for them.
-fn append(text: &mut Vec<u8>, more: &[u8])
-    requires { vec_len text.old + length more.now ≤ vec_capacity text.old }
-    ensures items { text.new.items ≡ text.old.items ++ more.now }
-    ensures len { vec_len text.new ≡ vec_len text.old + length more.now }
-    ensures room { vec_capacity text.old ≤ vec_capacity text.new }
-{
-    let _ = text.extend_from_slice(more);
 }

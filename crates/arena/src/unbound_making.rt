@@ -2,6 +2,7 @@ ghost use Rattle.std.specs.Prelude.{◌≡◌, length};
 ghost use Rattle.model.specs.Unbound.{empty_unbound};
 ghost use Rattle.model.specs.UnboundMaking.{make_unbound, unbound_with_children};
 ghost use Rattle.typing.specs.Asked.{new_of};
+ghost use Rattle.arena.specs.Opened.{records_of, bytes_of};
 
 use crate::memory::Memory;
 use crate::unbound::UnboundArena;
@@ -13,7 +14,7 @@ use vocabulary::refusals::Refusal;
 impl UnboundArena {
     /// An arena without nodes, in that memory.
     pub fn open(mut memory: Memory) -> UnboundArena
-        ensures { result ≡ empty_unbound memory.records memory.bytes }
+        ensures { result ≡ empty_unbound (records_of memory) (bytes_of memory) }
     {
         memory.clear();
         UnboundArena { memory }

@@ -11,7 +11,7 @@ invariant_of-result g c =
     let (stored, schemas, host) = same_opened (opened a) c.args.arena.now c.arena.view_is in
     let marked =
     marked_at_end a.binder.schemas a.memory c.args.arena.now.store c.len-nodes.result c.len-text.result stored
-    c.len-nodes.ensures c.len-text.ensures
+    c.len-nodes.ensures.value c.len-text.ensures.value
     in
     record { fewer = marked.fewer; shorter = marked.shorter; before = marked.before }
 
@@ -23,6 +23,6 @@ returns g c =
     record {
       same = refl;
       arena = refl;
-      nodes = c.len-nodes.ensures ∙ nodes_length ss a.memory ∙ ap (λ (s : Store). length s.nodes) stored;
-      text = c.len-text.ensures ∙ a.memory.text.ok.0 ∙ ap (λ (s : Store). length s.text) stored;
+      nodes = c.len-nodes.ensures.value ∙ nodes_length ss a.memory ∙ ap (λ (s : Store). length s.nodes) stored;
+      text = c.len-text.ensures.value ∙ ap (λ (s : Store). length s.text) stored;
     }

@@ -25,7 +25,7 @@ invariant_of-self g c =
     let marked =
     cut_marked a.arena.now.store (store i.binder.schemas c.cut.new.self) a.nodes a.text
     (record { fewer = a.fewer; shorter = a.shorter; before = a.before })
-    (c.cut.ensures.after i.binder.schemas ∙ ap (λ (s : Store). taken_back a.nodes a.text s) stored)
+    (c.cut.ensures i.binder.schemas ∙ ap (λ (s : Store). taken_back a.nodes a.text s) stored)
     in
     record { fewer = marked.fewer; shorter = marked.shorter; before = marked.before }
 
@@ -35,7 +35,7 @@ returns g c =
     let i = c.arena.inside in
     let (stored, schemas, host) = same_opened (opened i) a.arena.now c.arena.view_is in
     record {
-      after = c.cut.ensures.after i.binder.schemas ∙ ap (λ (s : Store). taken_back a.nodes a.text s) stored;
+      after = c.cut.ensures i.binder.schemas ∙ ap (λ (s : Store). taken_back a.nodes a.text s) stored;
       schemas = schemas;
       host = host;
     }

@@ -1,4 +1,4 @@
-use Rattle.std.proofs.Common.{◌≡◌, ℕ, ◌+◌, true, List, [], reverse, length, Ok, Err, vec_items, vec_len, Result, sym}
+use Rattle.std.proofs.Common.{◌≡◌, ℕ, ◌+◌, true, List, [], reverse, length, Ok, Err, Result, sym}
 use Rattle.std.proofs.Common.{ap, ◌∙◌, subst, arith}
 use Rattle.std.proofs.lemmas.Result.{err_from_is_err_and}
 use Rattle.vocabulary.specs.Nodes.{BoundNode as Node}
@@ -26,7 +26,7 @@ enter-requires g c =
       room = fits.room;
       text_room = omega (arith, fits.text_room, same);
       standing =
-          subst (λ (k : ℕ). stands (vec_len h.text + k) (reverse (vec_items h.nodes)) c.in_ok-node.node ≡ true)
+          subst (λ (k : ℕ). stands (length h.text.items + k) (reverse h.nodes.items) c.in_ok-node.node ≡ true)
           (sym same) fits.stands_there;
     }
 

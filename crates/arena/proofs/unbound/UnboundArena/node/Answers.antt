@@ -1,4 +1,4 @@
-use Rattle.std.proofs.Common.{◌≡◌, reverse, Some, None, Ok, Err, vec_items, Option, Result, sym, refl, ap, ◌∙◌, Bor}
+use Rattle.std.proofs.Common.{◌≡◌, reverse, Some, None, Ok, Err, Option, Result, sym, refl, ap, ◌∙◌, Bor}
 use Rattle.std.specs.Option.{option_map, ok_or}
 use Rattle.std.specs.Result.{result_map_both as both}
 use Rattle.vocabulary.specs.Nodes.{BoundNode as Node}
@@ -22,7 +22,7 @@ untyped_or (Some x) e = refl
 
 pub returns : goal.returns
 returns c =
-    let xs = reverse (vec_items c.self.inside.memory.nodes) in
+    let xs = reverse c.self.inside.memory.nodes.items in
     let n = c.args.number in
     untyped_both c.node.result ∙ ap (λ (r : Result Node MemoryRefusal). both untyped (λ e. e) r) c.node.ensures
     ∙ untyped_or (node_among xs n) (NoSuchNode n)
