@@ -77,7 +77,18 @@ impl<'a, H: Host> Attempt<'a, H> {
 
     /// Takes back what was made.
     pub fn take_back(self)
-        ensures after { self.exit.0.now.store ≡ taken_back self.entry.nodes self.entry.text self.entry.arena.now.store }
+        ensures after { self.exit.0.now.store
+            ≡ taken_back self.entry.nodes self.entry.text self.entry.arena.now.store }
+        ensures schemas { self.exit.0.now.store.schemas ≡ self.entry.arena.now.store.schemas }
+        ensures host { self.exit.0.now.host ≡ self.entry.arena.now.host }
+    {
+        self.cut()
+    }
+
+    /// Cuts the arena off at the marks.
+    fn cut(self)
+        ensures after { self.exit.0.now.store
+            ≡ taken_back self.entry.nodes self.entry.text self.entry.arena.now.store }
         ensures schemas { self.exit.0.now.store.schemas ≡ self.entry.arena.now.store.schemas }
         ensures host { self.exit.0.now.host ≡ self.entry.arena.now.host }
     {

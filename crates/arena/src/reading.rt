@@ -43,10 +43,8 @@ impl<H: Host> Arena<H> {
         ensures { result ≡ of_node self.now.store node
             (λ x. ok_or (child_at x position) (Binding (WrongChildCount node))) }
     {
-        match self.memory.node(node)?.child(position) {
-            Some(child) => Ok(child),
-            None => Err(BindingRefusal::WrongChildCount(node).into()),
-        }
+        let child = self.memory.node(node)?.child(position);
+        Ok(child.ok_or(BindingRefusal::WrongChildCount(node))?)
     }
 
     /// A literal's text or a name, by its bytes. Other nodes have none.
@@ -55,10 +53,8 @@ impl<H: Host> Arena<H> {
             (λ x. Ok (option_map (part self.now.store.text)
             (text_of x.function))) }
     {
-        match self.memory.node(node)?.text() {
-            Some(span) => Ok(Some(self.memory.text_at(span))),
-            None => Ok(None),
-        }
+        let span = self.memory.node(node)?.text();
+        Ok(span.map(|span| self.memory.text_at(span)))
     }
 
     /// The records, each at its number.

@@ -34,10 +34,8 @@ impl UnboundArena {
         ensures { result ≡ of_unbound self.now node
             (λ x. ok_or (child_at x position) (Binding (WrongChildCount node))) }
     {
-        match self.node(node)?.child(position) {
-            Some(child) => Ok(child),
-            None => Err(BindingRefusal::WrongChildCount(node).into()),
-        }
+        let child = self.node(node)?.child(position);
+        Ok(child.ok_or(BindingRefusal::WrongChildCount(node))?)
     }
 
     /// A literal's text or a name, by its bytes. Other nodes have none.
@@ -45,10 +43,8 @@ impl UnboundArena {
         ensures { read_bytes result ≡ of_unbound self.now node
             (λ x. Ok (option_map (part self.now.text) (text_of x.function))) }
     {
-        match self.node(node)?.text() {
-            Some(span) => Ok(Some(self.memory.text_at(span))),
-            None => Ok(None),
-        }
+        let span = self.node(node)?.text();
+        Ok(span.map(|span| self.memory.text_at(span)))
     }
 
     /// How many nodes there are.

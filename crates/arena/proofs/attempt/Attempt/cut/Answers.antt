@@ -4,7 +4,7 @@ use Rattle.arena.specs.ArenaModel.{opened}
 use Rattle.arena.specs.Opened.{store}
 use Rattle.arena.specs.Trials.{taken_back}
 use Rattle.arena.proofs.Kept.{cut_marked, may_cut, same_opened}
-use Rattle.arena.proofs.attempt.Attempt.take_back.Goals as goal
+use Rattle.arena.proofs.attempt.Attempt.cut.Goals as goal
 
 pub cut-requires : goal.cut-requires
 cut-requires g c =
