@@ -2,6 +2,7 @@ pub mod AsModelled
 pub mod AsUnbound
 pub mod Drafts
 pub mod Families
+pub mod FirstChildren
 pub mod Kept
 pub mod Looking
 pub mod Made

@@ -156,11 +156,11 @@ built types p s x e = over (looked_up s (named p.children p.count)) refl e
 
 -- the children that are recorded, eight with zeros behind them
 module _ (cs : List ℕ) (n : ℕ) (enough : min n 8 ≤ length cs) where
-  padded_named : take (min n 8) (padded cs (min n 8)) ≡ named cs n
+  pub padded_named : take (min n 8) (padded cs (min n 8)) ≡ named cs n
   padded_named =
       take_at (take (min n 8) cs) (drop (min n 8) (replicate 8 0)) (min n 8) (length-take-le (min n 8) cs enough)
 
-  padded_eight : length (padded cs (min n 8)) ≡ 8
+  pub padded_eight : length (padded cs (min n 8)) ≡ 8
   padded_eight = simp (length-append, length-take, length-drop) (omega arith)
 
 -- a record that a plan comes to stands

@@ -1,7 +1,9 @@
 pub mod ArenaModel
+pub mod Attempts
 pub mod Bound
 pub mod Building
 pub mod Drafting
+pub mod LawsOfChildren
 pub mod Loose
 pub mod Opened
 pub mod Placing

@@ -2,6 +2,7 @@ ghost use Rattle.std.specs.Prelude.{◌≡◌, length};
 ghost use Rattle.model.specs.Making.{make};
 ghost use Rattle.model.specs.Rebuilding.{with_children};
 ghost use Rattle.typing.specs.Asked.{new_of};
+ghost use Rattle.arena.specs.Attempts.{IsSameArena};
 ghost use Rattle.arena.specs.Trials.{taken_back};
 
 use crate::arena::Arena;
@@ -37,9 +38,7 @@ impl<'a, H: Host> Attempt<'a, H> {
             ≡ (make (H.Host.meaning self.old.arena.now.host) (new_of function.entry)
             children.now (length children.now)
             self.old.arena.now.store).1 }
-        ensures schemas { self.new.arena.now.store.schemas ≡ self.old.arena.now.store.schemas }
-        ensures host { self.new.arena.now.host ≡ self.old.arena.now.host }
-        ensures same { self.new.arena.ghost_name ≡ self.old.arena.ghost_name }
+        ensures same { IsSameArena self.old.arena self.new.arena }
         ensures nodes { self.new.nodes ≡ self.old.nodes }
         ensures text { self.new.text ≡ self.old.text }
     {
@@ -55,9 +54,7 @@ impl<'a, H: Host> Attempt<'a, H> {
             ≡ (with_children (H.Host.meaning self.old.arena.now.host) node
             children.now (length children.now)
             self.old.arena.now.store).1 }
-        ensures schemas { self.new.arena.now.store.schemas ≡ self.old.arena.now.store.schemas }
-        ensures host { self.new.arena.now.host ≡ self.old.arena.now.host }
-        ensures same { self.new.arena.ghost_name ≡ self.old.arena.ghost_name }
+        ensures same { IsSameArena self.old.arena self.new.arena }
         ensures nodes { self.new.nodes ≡ self.old.nodes }
         ensures text { self.new.text ≡ self.old.text }
     {
@@ -117,9 +114,7 @@ impl<'a, H: Host> Attempt<'a, H> {
             ≡ (make (H.Host.meaning self.old.arena.now.host) (new_of function.entry)
             children.now (length children.now)
             self.old.arena.now.store).1 }
-        ensures schemas { self.new.arena.now.store.schemas ≡ self.old.arena.now.store.schemas }
-        ensures host { self.new.arena.now.host ≡ self.old.arena.now.host }
-        ensures same { self.new.arena.ghost_name ≡ self.old.arena.ghost_name }
+        ensures same { IsSameArena self.old.arena self.new.arena }
         ensures nodes { self.new.nodes ≡ self.old.nodes }
         ensures text { self.new.text ≡ self.old.text }
     {
@@ -135,9 +130,7 @@ impl<'a, H: Host> Attempt<'a, H> {
             ≡ (with_children (H.Host.meaning self.old.arena.now.host) node
             children.now (length children.now)
             self.old.arena.now.store).1 }
-        ensures schemas { self.new.arena.now.store.schemas ≡ self.old.arena.now.store.schemas }
-        ensures host { self.new.arena.now.host ≡ self.old.arena.now.host }
-        ensures same { self.new.arena.ghost_name ≡ self.old.arena.ghost_name }
+        ensures same { IsSameArena self.old.arena self.new.arena }
         ensures nodes { self.new.nodes ≡ self.old.nodes }
         ensures text { self.new.text ≡ self.old.text }
     {

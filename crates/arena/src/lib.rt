@@ -7,6 +7,7 @@ pub mod attempts;
 pub mod bound;
 pub mod bounds;
 pub mod cutting;
+pub mod laws;
 pub mod making;
 pub mod memory;
 pub mod opening;
