@@ -8,7 +8,7 @@ ghost use Rattle.arena.specs.Opened.{store};
 ghost use Rattle.arena.specs.Rebuilding.{again, is_itself};
 
 use crate::memory::Memory;
-use meaning::texts::bytes_of;
+use meaning::texts::Texts;
 use typing::asking::{NewFunction, NewLiteral};
 use typing::typist::Typist;
 use vocabulary::nodes::{Function, Node};
@@ -62,7 +62,11 @@ impl Memory {
     fn literal_again(&self, value: Value) -> NewLiteral<'_>
         ensures { value_of result ≡ read self.now.text.items [] value }
     {
-        value.map(|text| bytes_of(text, self.text.as_slice(), &[]))
+        let texts = Texts {
+            arena: self.text.as_slice(),
+            row: &[],
+        };
+        value.map(|text| texts.bytes_of(text))
     }
 }
 

@@ -6,10 +6,10 @@ ghost use Rattle.meaning.specs.HostCode.{part};
 ghost use Rattle.model.specs.Stores.{node_among};
 
 use crate::memory::Memory;
-use meaning::texts::bytes_of;
+use meaning::texts::part_of;
 use vocabulary::nodes::Node;
 use vocabulary::refusals::MemoryRefusal;
-use vocabulary::values::{Span, Text};
+use vocabulary::values::Span;
 
 impl Memory {
     /// The record of that number.
@@ -29,7 +29,6 @@ impl Memory {
     pub(crate) fn text_at(&self, span: Span) -> &[u8]
         ensures { result.now ≡ part self.now.text.items span }
     {
-        let text = self.text.as_slice();
-        bytes_of(Text::Arena(span), text, text)
+        part_of(self.text.as_slice(), span)
     }
 }
