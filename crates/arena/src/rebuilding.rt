@@ -62,11 +62,13 @@ impl Memory {
     fn literal_again(&self, value: Value) -> NewLiteral<'_>
         ensures { value_of result ≡ read self.now.text.items [] value }
     {
-        let texts = Texts {
-            arena: self.text.as_slice(),
-            row: &[],
-        };
-        value.map(|text| texts.bytes_of(text))
+        value.map(|text| {
+            Texts {
+                arena: self.text.as_slice(),
+                row: &[],
+            }
+            .bytes_of(text)
+        })
     }
 }
 
