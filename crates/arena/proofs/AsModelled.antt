@@ -26,6 +26,7 @@ use Rattle.typing.specs.Typing.{asked_counts, asked_type, bound_typing}
 use Rattle.typing.proofs.Heads.{head_known_is, head_counts_is, head_type_is}
 use Rattle.arena.specs.Bound.{schema_there}
 use Rattle.arena.specs.Building.{sized_as, typed_over, build_by, make_by, rebuilt_by, rebuild_by}
+use Rattle.arena.specs.Opened.{Opened}
 use Rattle.arena.specs.Rebuilding.{again}
 
 -- codes, counts and types, by what they test
@@ -118,3 +119,19 @@ makes_new m w cs n s there = makes_bound m 65535 w cs n s ∙ first w there
     first (binary o) h = refl
     first (between o) h = refl
     first (host c) h = refl
+
+-- the same of an arena that is seen as a value
+pub makes_opened : {H : Type 0} (meaning : H → Meaning) (o p : Opened H) (w : New) (cs : List ℕ) (n : ℕ) → o ≡ p
+    → Ok tt ≡ schema_there w
+    → make_by (bound_typing (meaning o.host) o.store.schemas) 65535 w cs n o.store
+    ≡ make (meaning p.host) w cs n p.store
+makes_opened {H} meaning o p w cs n e there =
+    makes_new (meaning o.host) w cs n o.store there
+    ∙ ap (λ (z : Opened H). make (meaning z.host) w cs n z.store) e
+
+pub rebuilds_opened : {H : Type 0} (meaning : H → Meaning) (o p : Opened H) (k : ℕ) (cs : List ℕ) (n : ℕ) → o ≡ p
+    → rebuild_by (bound_typing (meaning o.host) o.store.schemas) k cs n o.store
+    ≡ with_children (meaning p.host) k cs n p.store
+rebuilds_opened {H} meaning o p k cs n e =
+    rebuilds_bound (meaning o.host) k cs n o.store
+    ∙ ap (λ (z : Opened H). with_children (meaning z.host) k cs n z.store) e

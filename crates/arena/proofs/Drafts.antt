@@ -1,6 +1,6 @@
 -- What is drafted check by check is what its plan comes to.
-use Rattle.std.proofs.Common.{◌≡◌, ℕ, suc, ◌+◌, min, Bool, true, false, cond, ltb, leb, List, [], ◌∷◌, length, take}
-use Rattle.std.proofs.Common.{Ok, Err, vec_items, vec_len, Result, sym, refl, ap, ◌∙◌, add-one, arith, length-take}
+use Rattle.std.proofs.Common.{◌≡◌, ℕ, suc, ◌+◌, ◌≤◌, min, Bool, true, false, cond, ltb, leb, List, [], ◌∷◌, length}
+use Rattle.std.proofs.Common.{Ok, Err, Result, sym, refl, ap, ◌∙◌, add-one, arith, length-take}
 use Rattle.std.proofs.lemmas.List.{length-reverse}
 use Rattle.vocabulary.specs.declared.nodes.Function.{Function}
 use Rattle.vocabulary.specs.Nodes.{BoundNode as Node}
@@ -17,15 +17,16 @@ use Rattle.meaning.specs.Columns.{Schemas}
 use Rattle.model.specs.Making.{Plan, named, looked_up, with_record, check, types_of, deepest, total_size}
 use Rattle.model.specs.Stores.{Store, node_at}
 use Rattle.model.specs.Wanted.{New, behind}
+use Rattle.model.proofs.Children.{led, ok_same}
 use Rattle.typing.specs.Typing.{Typing}
-use Rattle.arena.specs.declared.bounds.Draft.{Draft}
+use Rattle.arena.specs.declared.bounds.Bound.{Bound}
 use Rattle.arena.specs.declared.memory.Memory.{Memory as Held}
 use Rattle.arena.specs.Building.{sized_as, typed_over, build_by}
-use Rattle.arena.specs.Drafting.{then, in_memory, in_binding, drafted, drafted_over, noted}
+use Rattle.arena.specs.Drafting.{then, in_memory, in_binding, bound_over, drafted, noted}
 use Rattle.arena.specs.Opened.{store}
 use Rattle.arena.specs.Placing.{room_in}
 use Rattle.arena.specs.Surveying.{surveyed, no_kin, with_more, deeper, larger}
-use Rattle.arena.proofs.Families.{more_depth, more_size, more_types, looked_length}
+use Rattle.arena.proofs.Families.{more_depth, more_size, more_types}
 
 -- the room that is left, by the numbers of records and bytes
 abbrev room_by : ℕ → ℕ → ℕ → ℕ → ℕ → ℕ → Result Span MemoryRefusal
@@ -35,20 +36,26 @@ room_by place used records len more bytes =
     (Err (RecordsFull place))
 
 -- the same of the memory and of the store
-pub nodes_length : (ss : Schemas) (h : Held) → vec_len h.nodes ≡ length (store ss h).nodes
-nodes_length ss h = h.nodes.ok.0 ∙ sym (length-reverse (vec_items h.nodes))
+pub nodes_length : (ss : Schemas) (h : Held) → length h.nodes.items ≡ length (store ss h).nodes
+nodes_length ss h = sym (length-reverse h.nodes.items)
 
 room_is : (ss : Schemas) (h : Held) (place more : ℕ)
     → room_in place h more
-    ≡ room_by place (length (store ss h).nodes) h.records (length (store ss h).text) more h.bytes
+    ≡ room_by place (length (store ss h).nodes) h.nodes.limit (length (store ss h).text) more h.text.limit
 room_is ss h place more =
-    ap (λ (n : ℕ). room_by place n h.records (vec_len h.text) more h.bytes) (nodes_length ss h)
-    ∙ ap (λ (n : ℕ). room_by place (length (store ss h).nodes) h.records n more h.bytes) h.text.ok.0
+    ap (λ (n : ℕ). room_by place n h.nodes.limit (length h.text.items) more h.text.limit) (nodes_length ss h)
 
 -- what is looked up does not depend on the schemas
 looked_same : (s r : Store) → s.nodes ≡ r.nodes → (ks : List ℕ) → looked_up s ks ≡ looked_up r ks
 looked_same s r e [] = refl
 looked_same s r e (k ∷ ks) = rw e (ap (with_record k (node_at r k)) (looked_same s r e ks))
+
+-- as many records as numbers
+looked_length : (s : Store) (ks : List ℕ) (xs : List Node) → looked_up s ks ≡ Ok xs → length xs ≡ length ks
+looked_length s [] xs e = ap length (sym (ok_same e))
+looked_length s (k ∷ ks) xs e =
+    let l = led s k ks xs e in
+    ap length l.whole ∙ ap suc (looked_length s ks l.rest l.others)
 
 -- the checks of a draft, by what they test
 abbrev chain : ℕ → (Span → Function) → List ℕ → ℕ
@@ -57,18 +64,18 @@ chain place f cs n type d z room =
     then (in_binding type (λ t.
     in_binding (deeper place d) (λ e.
     in_binding (larger place z) (λ y.
-    in_memory room (λ q.
-    Ok (record { dtype = t; depth = e; size = y; span = q }))))))
-    (λ (b : Draft). Ok (noted (f b.span) cs n b))
+    Ok (record { dtype = t; depth = e; size = y })))))
+    (λ (b : Bound). in_memory room (λ q. Ok (noted (f q) cs n b)))
 
 module _ (p : Plan) (f : Span → Function) (q : Span) (is : f q ≡ p.function) where
   -- depth, size and room
   ends : (t : DType) (d z : ℕ) (deep large free long : Bool)
       → then (in_binding (cond deep (Ok (d + 1)) (Err (TooDeep p.place))) (λ e.
       in_binding (cond large (Ok (z + 1)) (Err (TooLarge p.place))) (λ y.
+      Ok (record { dtype = t; depth = e; size = y }))))
+      (λ (b : Bound).
       in_memory (cond free (cond long (Ok q) (Err (TextFull p.place))) (Err (RecordsFull p.place))) (λ r.
-      Ok (record { dtype = t; depth = e; size = y; span = r })))))
-      (λ (b : Draft). Ok (noted (f b.span) p.children p.count b))
+      Ok (noted (f r) p.children p.count b)))
       ≡ check deep (Binding (TooDeep p.place))
       (check large (Binding (TooLarge p.place))
       (check free (Memory (RecordsFull p.place))
@@ -95,32 +102,28 @@ module _ (p : Plan) (f : Span → Function) (q : Span) (is : f q ≡ p.function)
       ends t (deepest xs) (total_size xs) (ltb (deepest xs) 256) (ltb (total_size xs) 4096)
       (ltb (length s.nodes) s.records) (leb (length s.text + length p.adds) s.bytes)
 
--- the types that were gathered are those of the records
-types_gathered : (s : Store) (cs : List ℕ) (n : ℕ) (xs : List Node) → length cs ≡ 8 → looked_up s (named cs n) ≡ Ok xs
-    → take (min n 8) (with_more 0 no_kin xs).types ≡ types_of xs
-types_gathered s cs n xs eight e =
-    let l : length (take (min n 8) cs) ≡ min n 8 = simp length-take (omega arith) in
-    let k : min n 8 ≡ 0 + length xs = omega (arith, looked_length s (named cs n) xs e) in
-    ap (λ (i : ℕ). take i (with_more 0 no_kin xs).types) k ∙ more_types 0 no_kin xs (omega arith)
+-- at most eight are looked up
+few_looked : (s : Store) (cs : List ℕ) (n : ℕ) (xs : List Node) → looked_up s (named cs n) ≡ Ok xs → length xs ≤ 8
+few_looked s cs n xs e =
+    let l = looked_length s (named cs n) xs e in
+    let k = length-take (min n 8) cs in
+    omega (arith, l, k)
 
 -- what is drafted is what the plan comes to
 pub draft_is : (ss : Schemas) (h : Held) (typing : Typing) (p : Plan) (w : New) (f : Span → Function)
-    → f (behind (store ss h).text p.adds) ≡ p.function → length p.children ≡ 8
-    → then (drafted typing h p.place w p.children p.count (length p.adds))
-    (λ (b : Draft). Ok (noted (f b.span) p.children p.count b))
+    → f (behind (store ss h).text p.adds) ≡ p.function
+    → drafted typing h p.place w f (length p.adds) p.children p.count
     ≡ build_by (typing p.place w p.count) p (store ss h)
 unfolding build_by
-draft_is ss h typing p w f function eight =
-    ap (λ (r : Result (List Node) ℕ). then (then (surveyed 0 no_kin r) (λ k.
-    drafted_over typing h p.place w p.count (length p.adds) k))
-    (λ (b : Draft). Ok (noted (f b.span) p.children p.count b)))
+draft_is ss h typing p w f function =
+    ap (λ (r : Result (List Node) ℕ). then (then (surveyed no_kin r) (λ k. bound_over typing p.place w p.count k))
+    (λ (b : Bound). in_memory (room_in p.place h (length p.adds)) (λ q. Ok (noted (f q) p.children p.count b))))
     (looked_same (store [] h) (store ss h) refl (named p.children p.count))
     ∙ go (looked_up (store ss h) (named p.children p.count)) refl
   where
     go : (r : Result (List Node) ℕ) → looked_up (store ss h) (named p.children p.count) ≡ r
-        → then (then (surveyed 0 no_kin r) (λ k.
-        drafted_over typing h p.place w p.count (length p.adds) k))
-        (λ (b : Draft). Ok (noted (f b.span) p.children p.count b))
+        → then (then (surveyed no_kin r) (λ k. bound_over typing p.place w p.count k))
+        (λ (b : Bound). in_memory (room_in p.place h (length p.adds)) (λ q. Ok (noted (f q) p.children p.count b)))
         ≡ typed_over (typing p.place w p.count) p (store ss h) r
     go (Err k) e = refl
     go (Ok xs) e =
@@ -128,12 +131,13 @@ draft_is ss h typing p w f function eight =
         let place = p.place in
         let cs = p.children in
         let n = p.count in
-        let kin = with_more 0 no_kin xs in
-        let d : kin.depth ≡ deepest xs = omega (arith, more_depth 0 no_kin xs) in
-        let z : kin.size ≡ total_size xs = omega (arith, more_size 0 no_kin xs) in
+        let kin = with_more no_kin xs in
+        let d : kin.depth ≡ deepest xs = omega (arith, more_depth no_kin xs) in
+        let z : kin.size ≡ total_size xs = omega (arith, more_size no_kin xs) in
+        let few = few_looked s cs n xs e in
         let room = room_is ss h place (length p.adds) in
         ap (λ (ts : List DType). chain place f cs n (typing place w n ts) kin.depth kin.size
-        (room_in place h (length p.adds))) (types_gathered s cs n xs eight e)
+        (room_in place h (length p.adds))) (more_types no_kin xs (omega (arith, few)))
         ∙ ap (λ (y : ℕ). chain place f cs n (typing place w n (types_of xs)) y kin.size
         (room_in place h (length p.adds))) d
         ∙ ap (λ (y : ℕ). chain place f cs n (typing place w n (types_of xs)) (deepest xs) y

@@ -1,5 +1,5 @@
 -- What was there before stays in front while more is made, and is what is left when that is taken back.
-use Rattle.std.proofs.Common.{◌≡◌, ℕ, ◌≤◌, true, List, ◌++◌, reverse, length, take, vec_items, vec_len, sym, refl, ap}
+use Rattle.std.proofs.Common.{◌≡◌, ℕ, ◌≤◌, true, List, reverse, length, take, sym, refl, ap}
 use Rattle.std.proofs.Common.{◌∙◌, subst, arith, length-append, length-take}
 use Rattle.std.proofs.lemmas.List.{reverse-append, reverse-reverse, length-reverse, take-append-le, take_all}
 use Rattle.vocabulary.specs.Nodes.{BoundNode as Node}
@@ -7,40 +7,58 @@ use Rattle.meaning.specs.Columns.{Schemas}
 use Rattle.model.specs.LawsOfMaking.{Grows}
 use Rattle.model.specs.Stores.{Store}
 use Rattle.arena.specs.declared.memory.Memory.{Memory as Held}
-use Rattle.arena.specs.Opened.{store}
+use Rattle.arena.specs.Opened.{Opened, store}
+use Rattle.arena.specs.Rooms.{Limited}
 use Rattle.arena.specs.Standing.{all_stand}
 use Rattle.arena.specs.Trials.{taken_back}
 
--- the records in the order of making, after more were made
-grown_forward : (ss rr : Schemas) (h later : Held) (g : Grows (store ss h) (store rr later))
-    → vec_items later.nodes ≡ vec_items h.nodes ++ reverse g.newer
-grown_forward ss rr h later g =
-    sym (reverse-reverse (vec_items later.nodes))
-    ∙ ap (λ (xs : List Node). reverse xs) g.nodes
-    ∙ reverse-append g.newer (reverse (vec_items h.nodes))
-    ∙ ap (λ (xs : List Node). xs ++ reverse g.newer) (reverse-reverse (vec_items h.nodes))
+-- what holds of an attempt's marks
+pub record Marked (s : Store) (nodes text : ℕ) : Type 0 where
+  pub fewer : nodes ≤ length s.nodes
+  pub shorter : text ≤ length s.text
+  pub before : all_stand text (reverse (take nodes (reverse s.nodes))) ≡ true
 
--- what holds of an attempt's marks holds after more was made
-pub record Marked (h : Held) (nodes text : ℕ) : Type 0 where
-  pub fewer : nodes ≤ vec_len h.nodes
-  pub shorter : text ≤ vec_len h.text
-  pub before : all_stand text (reverse (take nodes (vec_items h.nodes))) ≡ true
-
-pub still_marked : (ss rr : Schemas) (h later : Held) (nodes text : ℕ) → Grows (store ss h) (store rr later)
-    → Marked h nodes text → Marked later nodes text
-still_marked ss rr h later nodes text g m =
-    let xs = vec_items h.nodes in
-    let all = grown_forward ss rr h later g in
-    let more = ap length all ∙ length-append xs (reverse g.newer) in
-    let longer = ap length g.text ∙ length-append (vec_items h.text) g.more in
-    let front : take nodes (vec_items later.nodes) ≡ take nodes xs =
+-- it holds after more was made
+pub still_marked : (s later : Store) (nodes text : ℕ) → Grows s later → Marked s nodes text → Marked later nodes text
+still_marked s later nodes text g m =
+    let all = ap (λ (xs : List Node). reverse xs) g.nodes ∙ reverse-append g.newer s.nodes in
+    let more = ap length g.nodes ∙ length-append g.newer s.nodes in
+    let longer = ap length g.text ∙ length-append s.text g.more in
+    let front : take nodes (reverse later.nodes) ≡ take nodes (reverse s.nodes) =
     ap (λ (ys : List Node). take nodes ys) all
-    ∙ take-append-le nodes xs (reverse g.newer) (omega (arith, m.fewer, h.nodes.ok.0)) in
+    ∙ take-append-le nodes (reverse s.nodes) (reverse g.newer) (omega (arith, m.fewer, length-reverse s.nodes)) in
     record {
-      fewer = omega (arith, m.fewer, h.nodes.ok.0, later.nodes.ok.0, more);
-      shorter = omega (arith, m.shorter, h.text.ok.0, later.text.ok.0, longer);
+      fewer = omega (arith, m.fewer, more);
+      shorter = omega (arith, m.shorter, longer);
       before = subst (λ (ys : List Node). all_stand text (reverse ys) ≡ true) (sym front) m.before;
     }
+
+-- it holds of marks at the end of all that there is
+pub marked_at_end : (ss : Schemas) (h : Held) (s : Store) (nodes text : ℕ) → store ss h ≡ s
+    → nodes ≡ length h.nodes.items → text ≡ length h.text.items → Marked s nodes text
+marked_at_end ss h s nodes text e few short =
+    subst (λ (z : Store). Marked z nodes text) e
+    (let xs = h.nodes.items in
+    let whole : take nodes (reverse (reverse xs)) ≡ xs =
+    ap (λ (ys : List Node). take nodes ys) (reverse-reverse xs)
+    ∙ take_all nodes xs (omega (arith, few)) in
+    record {
+      fewer = omega (arith, few, length-reverse xs);
+      shorter = omega (arith, short);
+      before =
+          ap (λ (ys : List Node). all_stand text (reverse ys)) whole
+          ∙ ap (λ (k : ℕ). all_stand k (reverse xs)) short ∙ h.sound;
+    })
+
+-- what stands before the marks may be cut off behind them
+pub may_cut : (ss : Schemas) (h : Held) (s : Store) (nodes text : ℕ) → store ss h ≡ s → Marked s nodes text
+    → (text ≤ length h.text.items) × (all_stand text (reverse (take nodes h.nodes.items)) ≡ true)
+may_cut ss h s nodes text e m =
+    let here : Marked (store ss h) nodes text = subst (λ (z : Store). Marked z nodes text) (sym e) m in (
+      omega (arith, here.shorter),
+      subst (λ (ys : List Node). all_stand text (reverse (take nodes ys)) ≡ true) (reverse-reverse h.nodes.items)
+          here.before,
+    )
 
 same_store : (ss rr : Schemas) (a b : List Node) (t u : List ℕ) (r q n k : ℕ)
     → ss ≡ rr → a ≡ b → t ≡ u → r ≡ q → n ≡ k
@@ -66,28 +84,36 @@ taken_back_grown s later g =
     g.records g.bytes
 
 -- a memory that was cut
-pub cut_is : (ss : Schemas) (h : Held) (nodes text : ℕ) (xs : List Node) (bs : List ℕ)
-    → xs ≡ take nodes (vec_items h.nodes) → bs ≡ take text (vec_items h.text)
+pub cut_is : (ss : Schemas) (h : Held) (nodes text : ℕ) (xs : Limited Node) (bs : Limited ℕ)
+    → xs ≡ record { items = take nodes h.nodes.items; limit = h.nodes.limit }
+    → bs ≡ record { items = take text h.text.items; limit = h.text.limit }
     → ◌≡◌ {A = Store}
-    (record { schemas = ss; nodes = reverse xs; text = bs; records = h.records; bytes = h.bytes })
+    (record { schemas = ss; nodes = reverse xs.items; text = bs.items; records = xs.limit; bytes = bs.limit })
     (taken_back nodes text (store ss h))
 cut_is ss h nodes text xs bs e f =
     same_store ss ss _ _ _ _ _ _ _ _ refl
-    (ap (λ (ys : List Node). reverse ys) e
-    ∙ ap (λ (ys : List Node). reverse (take nodes ys)) (sym (reverse-reverse (vec_items h.nodes))))
-    f refl refl
+    (ap (λ (z : Limited Node). reverse z.items) e
+    ∙ ap (λ (ys : List Node). reverse (take nodes ys)) (sym (reverse-reverse h.nodes.items)))
+    (ap (λ (z : Limited ℕ). z.items) f) (ap (λ (z : Limited Node). z.limit) e) (ap (λ (z : Limited ℕ). z.limit) f)
 
--- the marks of a memory that was cut back to them
-pub cut_marked : (h later : Held) (nodes text : ℕ) → Marked h nodes text
-    → vec_items later.nodes ≡ take nodes (vec_items h.nodes)
-    → vec_items later.text ≡ take text (vec_items h.text) → Marked later nodes text
-cut_marked h later nodes text m e f =
-    let few = ap length e ∙ length-take nodes (vec_items h.nodes) in
-    let short = ap length f ∙ length-take text (vec_items h.text) in
-    let same : take nodes (vec_items later.nodes) ≡ take nodes (vec_items h.nodes) =
-    take_all nodes (vec_items later.nodes) (omega (arith, few)) ∙ e in
+-- the marks of what was cut back to them
+pub cut_marked : (s later : Store) (nodes text : ℕ) → Marked s nodes text → later ≡ taken_back nodes text s
+    → Marked later nodes text
+cut_marked s later nodes text m e =
+    subst (λ (z : Store). Marked z nodes text) (sym e)
+    (let front = take nodes (reverse s.nodes) in
+    let few = length-take nodes (reverse s.nodes) in
+    let all = length-reverse s.nodes in
+    let same : take nodes (reverse (reverse front)) ≡ front =
+    ap (λ (ys : List Node). take nodes ys) (reverse-reverse front) ∙ take_all nodes front (omega (arith, few)) in
     record {
-      fewer = omega (arith, few, m.fewer, h.nodes.ok.0, later.nodes.ok.0);
-      shorter = omega (arith, short, m.shorter, h.text.ok.0, later.text.ok.0);
+      fewer = omega (arith, few, all, m.fewer, length-reverse front);
+      shorter = omega (arith, m.shorter, length-take text s.text);
       before = subst (λ (ys : List Node). all_stand text (reverse ys) ≡ true) (sym same) m.before;
-    }
+    })
+
+-- the parts of equal arenas
+pub same_opened : {H : Type 0} (o p : Opened H) → o ≡ p
+    → (o.store ≡ p.store) × (o.store.schemas ≡ p.store.schemas) × (o.host ≡ p.host)
+same_opened {H} o p e =
+    (ap (λ (z : Opened H). z.store) e, ap (λ (z : Opened H). z.store.schemas) e, ap (λ (z : Opened H). z.host) e)

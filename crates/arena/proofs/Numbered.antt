@@ -1,8 +1,10 @@
 -- Records by their numbers, in the order of making and with the newest first.
-use Rattle.std.proofs.Common.{◌≡◌, ℕ, suc, ◌-◌, ◌<◌, ◌≤◌, Bool, true, false, eqb, List, [], ◌∷◌, reverse, length}
+use Rattle.std.proofs.Common.{◌≡◌, ℕ, suc, ◌-◌, ◌<◌, ◌≤◌, Bool, true, false, eqb, ltb, List, [], ◌∷◌, reverse, length}
 use Rattle.std.proofs.Common.{get_or, Some, None, sym, refl, ap, ◌∙◌, arith}
 use Rattle.std.proofs.lemmas.List.{get_or-reverse, length-reverse}
-use Rattle.std.proofs.lemmas.Bool.{eqb-true, eqb-false}
+use Rattle.std.proofs.lemmas.Bool.{eqb-true, eqb-false, ltb-true, ltb-false}
+use Rattle.std.proofs.lemmas.Option.{slice_get-get_or, slice_get_past}
+use Rattle.std.specs.List.{slice_get}
 use Rattle.vocabulary.specs.Nodes.{BoundNode as Node}
 use Rattle.model.specs.Stores.{node_among}
 use Rattle.model.proofs.Numbers.{node_older, node_newest, node_past}
@@ -37,3 +39,16 @@ node_made xs n d h =
 -- a number past the records has none
 pub node_not_made : (xs : List Node) (n : ℕ) → length xs ≤ n → node_among (reverse xs) n ≡ None
 node_not_made xs n h = let l = length-reverse xs in node_past (reverse xs) n (omega arith)
+
+-- the record at a place is the record of that number
+pub node_got : (xs : List Node) (n : ℕ) → slice_get xs n ≡ node_among (reverse xs) n
+node_got [] n = sym (node_not_made [] n (omega arith))
+node_got (y ∷ ys) n = go (ltb n (length (y ∷ ys))) refl
+  where
+    go : (b : Bool) → ltb n (length (y ∷ ys)) ≡ b → slice_get (y ∷ ys) n ≡ node_among (reverse (y ∷ ys)) n
+    go true e =
+        let l = ltb-true n (length (y ∷ ys)) e in
+        slice_get-get_or (y ∷ ys) n y l ∙ sym (node_made (y ∷ ys) n y l)
+    go false e =
+        let l = ltb-false n (length (y ∷ ys)) e in
+        slice_get_past (y ∷ ys) n l ∙ sym (node_not_made (y ∷ ys) n l)

@@ -1,6 +1,6 @@
--- A node that is rebuilt by a draft over the other children is the one that rebuilding comes to.
-use Rattle.std.proofs.Common.{◌≡◌, ℕ, zero, suc, ◌+◌, Bool, true, false, cond, List, [], reverse, length, Some, Ok}
-use Rattle.std.proofs.Common.{Err, vec_items, vec_len, Option, Result, sym, refl, ap, ◌∙◌, subst, arith}
+-- A node that is drafted over the other children is the one that rebuilding comes to.
+use Rattle.std.proofs.Common.{◌≡◌, ℕ, zero, suc, ◌+◌, ◌≤◌, min, Bool, true, false, cond, List, [], reverse, length}
+use Rattle.std.proofs.Common.{Some, Ok, Option, Result, sym, refl, ap, ◌∙◌, subst, arith}
 use Rattle.std.proofs.lemmas.Bool.{ne_eqb}
 use Rattle.vocabulary.specs.declared.nodes.Function.{Function}
 use Rattle.vocabulary.specs.declared.nodes.Function.TheVariants.{Root, Literal, GetItem, Cast, Binary, Between, Host}
@@ -13,10 +13,9 @@ use Rattle.model.specs.Rebuilding.{old_plan, itself_or}
 use Rattle.model.specs.Stores.{Store, node_at}
 use Rattle.model.specs.Wanted.{New}
 use Rattle.typing.specs.Typing.{Typing}
-use Rattle.arena.specs.declared.bounds.Draft.{Draft}
 use Rattle.arena.specs.declared.memory.Memory.{Memory as Held}
 use Rattle.arena.specs.Building.{build_by, rebuilt_by, rebuild_by}
-use Rattle.arena.specs.Drafting.{then, drafted, noted}
+use Rattle.arena.specs.Drafting.{drafted}
 use Rattle.arena.specs.Opened.{store}
 use Rattle.arena.specs.Rebuilding.{again, is_itself}
 use Rattle.arena.specs.Standing.{ends_within}
@@ -39,7 +38,7 @@ module _ (ss : Schemas) (h : Held) (typing : Typing) (k : ℕ) (x : Node) (cs : 
     (found : node_at (store ss h) k ≡ Some x) where
   -- what the node was asked for
   abbrev asked : New
-  asked = again (vec_items h.text) x.dtype x.function
+  asked = again h.text.items x.dtype x.function
 
   -- the record that it comes to
   abbrev anew : Result Node Refusal
@@ -64,28 +63,16 @@ module _ (ss : Schemas) (h : Held) (typing : Typing) (k : ℕ) (x : Node) (cs : 
       rebuilt_is
       ∙ ap (λ (b : Bool). cond b (Ok k, store ss h) (entered [] (store ss h) anew)) (sym e)
 
-  -- by the record of a draft
-  abbrev finished : Result Draft Refusal → Result Node Refusal
-  finished r = then r (λ (b : Draft). Ok (noted x.function cs n b))
-
-  remade_is : length cs ≡ 8 → finished (drafted typing h k asked cs n 0) ≡ anew
-  remade_is eight = draft_is ss h typing (old_plan k x cs n (store ss h)) asked (λ _. x.function) refl eight
-
-  -- a draft that was granted
-  pub remade_granted : length cs ≡ 8 → (d : Draft) → Ok d ≡ drafted typing h k asked cs n 0
-      → Ok (noted x.function cs n d) ≡ anew
-  remade_granted eight d e = ap finished e ∙ remade_is eight
-
-  -- a draft that was refused
-  pub remade_refused : length cs ≡ 8 → (r : Refusal) → Err r ≡ drafted typing h k asked cs n 0 → Err r ≡ anew
-  remade_refused eight r e = ap finished e ∙ remade_is eight
+  -- by a draft
+  pub remade_is : drafted typing h k asked (λ _. x.function) 0 cs n ≡ anew
+  remade_is = draft_is ss h typing (old_plan k x cs n (store ss h)) asked (λ _. x.function) refl
 
   -- its record fits, since the old node's text lies inside
-  pub remade_fits : length cs ≡ 8 → (d : Draft) → Ok d ≡ drafted typing h k asked cs n 0
-      → FitsIn h (noted x.function cs n d) 0
-  remade_fits eight d e =
-      let l = lies (vec_len h.text) (reverse (vec_items h.nodes)) k x h.sound found in
-      let inside = (stood (vec_len h.text) l.older x l.there).inside in
-      let z : vec_len h.text ≡ vec_len h.text + 0 = omega arith in
-      build_fits (typing k asked n) ss h (old_plan k x cs n (store ss h)) _ eight
-      (subst (λ (j : ℕ). ends_within j (text_of x.function) ≡ true) z inside) (sym (remade_granted eight d e))
+  pub remade_fits : min n 8 ≤ length cs → (y : Node) → Ok y ≡ drafted typing h k asked (λ _. x.function) 0 cs n
+      → FitsIn h y 0
+  remade_fits enough y e =
+      let l = lies (length h.text.items) (reverse h.nodes.items) k x h.sound found in
+      let inside = (stood (length h.text.items) l.older x l.there).inside in
+      let z : length h.text.items ≡ length h.text.items + 0 = omega arith in
+      build_fits (typing k asked n) ss h (old_plan k x cs n (store ss h)) y enough
+      (subst (λ (j : ℕ). ends_within j (text_of x.function) ≡ true) z inside) (sym (e ∙ remade_is))

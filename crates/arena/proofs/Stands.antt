@@ -1,14 +1,15 @@
 -- Records that are entered stand, and those before them still do.
 use Rattle.std.proofs.Common.{◌≡◌, ℕ, suc, ◌+◌, ◌<◌, ◌≤◌, min, Bool, true, false, cond, ◌&&◌, eqb, ltb, leb, List, []}
-use Rattle.std.proofs.Common.{◌∷◌, ◌++◌, reverse, length, Some, None, Ok, Err, vec_items, vec_len, Option, Result}
-use Rattle.std.proofs.Common.{sym, refl, ap, ◌∙◌, subst, arith}
-use Rattle.std.proofs.lemmas.List.{reverse-append}
+use Rattle.std.proofs.Common.{◌∷◌, ◌++◌, reverse, length, Some, None, Ok, Err, Option, Result}
+use Rattle.std.proofs.Common.{sym, refl, ap, ◌∙◌, subst, arith, take, drop, replicate, length-append, length-drop}
+use Rattle.std.proofs.Common.{length-take}
+use Rattle.std.proofs.lemmas.List.{reverse-append, take_at, length-take-le}
 use Rattle.std.proofs.lemmas.Bool.{and_parts, and_from, leb-true, ltb-true, le-leb, eq-eqb, eqb-true}
 use Rattle.vocabulary.specs.Nodes.{BoundNode as Node}
 use Rattle.vocabulary.specs.declared.refusals.BindingRefusal.{BindingRefusal}
 use Rattle.vocabulary.specs.declared.types.DType.{DType}
 use Rattle.vocabulary.specs.declared.values.Span.{Span}
-use Rattle.vocabulary.specs.Nodes.{text_of}
+use Rattle.vocabulary.specs.Nodes.{padded, text_of}
 use Rattle.meaning.specs.Columns.{Schemas}
 use Rattle.meaning.proofs.CaseSplits.{none_some, some_same}
 use Rattle.model.specs.Making.{Plan, named, looked_up, with_record, types_of, deepest, total_size, new_record}
@@ -16,11 +17,11 @@ use Rattle.model.specs.Shapes.{kids}
 use Rattle.model.specs.Soundness.{EndsWithin}
 use Rattle.model.specs.Stores.{Store, node_among, grown}
 use Rattle.model.proofs.Children.{err_ok, ok_same}
-use Rattle.model.proofs.Growing.{padded_named, padded_eight}
 use Rattle.model.proofs.Plans.{checked}
 use Rattle.arena.specs.declared.memory.Memory.{Memory as Held}
 use Rattle.arena.specs.Building.{sized_as, typed_over, build_by}
 use Rattle.arena.specs.Opened.{store}
+use Rattle.arena.specs.Rooms.{Limited}
 use Rattle.arena.specs.Standing.{found_among, ends_within, measures, stands, all_stand}
 use Rattle.arena.proofs.Drafts.{nodes_length}
 
@@ -153,18 +154,27 @@ built types p s x e = over (looked_up s (named p.children p.count)) refl e
     over (Err k) a h = err_ok _ x h
     over (Ok xs) a h = typed xs a (types (types_of xs)) h
 
+-- the children that are recorded, eight with zeros behind them
+module _ (cs : List ℕ) (n : ℕ) (enough : min n 8 ≤ length cs) where
+  padded_named : take (min n 8) (padded cs (min n 8)) ≡ named cs n
+  padded_named =
+      take_at (take (min n 8) cs) (drop (min n 8) (replicate 8 0)) (min n 8) (length-take-le (min n 8) cs enough)
+
+  padded_eight : length (padded cs (min n 8)) ≡ 8
+  padded_eight = simp (length-append, length-take, length-drop) (omega arith)
+
 -- a record that a plan comes to stands
-built_stands : (p : Plan) (s : Store) (x : Node) → Built p s x → length p.children ≡ 8
+built_stands : (p : Plan) (s : Store) (x : Node) → Built p s x → min p.count 8 ≤ length p.children
     → (len : ℕ) → ends_within len (text_of p.function) ≡ true → stands len s.nodes x ≡ true
-built_stands p s x b eight len ends =
+built_stands p s x b enough len ends =
     let n = p.count in
     let cs = p.children in
     let y = new_record p b.type b.records in
     let found : found_among s.nodes (kids y) ≡ Ok b.records =
-    ap (found_among s.nodes) (padded_named cs n eight) ∙ sym (looked_found s (named cs n)) ∙ b.there in
+    ap (found_among s.nodes) (padded_named cs n enough) ∙ sym (looked_found s (named cs n)) ∙ b.there in
     subst (λ (z : Node). stands len s.nodes z ≡ true) (sym b.is)
     (stands_by len s.nodes y (record {
-      few = and_from _ _ (le-leb (min n 8) 8 (omega arith)) (eq-eqb _ 8 (padded_eight cs n eight));
+      few = and_from _ _ (le-leb (min n 8) 8 (omega arith)) (eq-eqb _ 8 (padded_eight cs n enough));
       measured =
           ap (measures y) found
           ∙ and_from _ _
@@ -176,21 +186,21 @@ built_stands p s x b eight len ends =
 
 -- there is room for a record and for bytes, and the record stands
 pub record FitsIn (h : Held) (x : Node) (more : ℕ) : Type 0 where
-  pub room : vec_len h.nodes < h.records
-  pub text_room : vec_len h.text + more ≤ h.bytes
-  pub stands_there : stands (vec_len h.text + more) (reverse (vec_items h.nodes)) x ≡ true
+  pub room : length h.nodes.items < h.nodes.limit
+  pub text_room : length h.text.items + more ≤ h.text.limit
+  pub stands_there : stands (length h.text.items + more) (reverse h.nodes.items) x ≡ true
 
 -- what a plan comes to fits
 pub build_fits : (types : List DType → Result DType BindingRefusal) (ss : Schemas) (h : Held) (p : Plan) (x : Node)
-    → length p.children ≡ 8
-    → ends_within (vec_len h.text + length p.adds) (text_of p.function) ≡ true
+    → min p.count 8 ≤ length p.children
+    → ends_within (length h.text.items + length p.adds) (text_of p.function) ≡ true
     → build_by types p (store ss h) ≡ Ok x → FitsIn h x (length p.adds)
-build_fits types ss h p x eight ends e =
+build_fits types ss h p x enough ends e =
     let b = built types p (store ss h) x e in
     record {
       room = omega (arith, b.room, nodes_length ss h);
-      text_room = omega (arith, b.text_room, h.text.ok.0);
-      stands_there = built_stands p (store ss h) x b eight (vec_len h.text + length p.adds) ends;
+      text_room = b.text_room;
+      stands_there = built_stands p (store ss h) x b enough (length h.text.items + length p.adds) ends;
     }
 
 pub ends_inside : (all : List ℕ) (o : Option Span) → EndsWithin all o → ends_within (length all) o ≡ true
@@ -199,12 +209,12 @@ ends_inside all (Some p) h = le-leb (p.start + p.len) (length all) h
 
 -- all records stand after one was added behind them, and bytes behind the text
 pub added_stand : (h : Held) (xs : List Node) (len : ℕ) (x : Node) (more : List ℕ)
-    → xs ≡ vec_items h.nodes ++ (x ∷ []) → len ≡ vec_len h.text + length more
-    → stands (vec_len h.text + length more) (reverse (vec_items h.nodes)) x ≡ true
+    → xs ≡ h.nodes.items ++ (x ∷ []) → len ≡ length h.text.items + length more
+    → stands (length h.text.items + length more) (reverse h.nodes.items) x ≡ true
     → all_stand len (reverse xs) ≡ true
 added_stand h xs len x more nodes longer new =
-    let old = vec_items h.nodes in
-    let size = vec_len h.text in
+    let old = h.nodes.items in
+    let size = length h.text.items in
     ap (λ (k : ℕ). all_stand k (reverse xs)) longer
     ∙ ap (λ (zs : List Node). all_stand (size + length more) (reverse zs)) nodes
     ∙ ap (all_stand (size + length more)) (reverse-append old (x ∷ []))
@@ -218,11 +228,19 @@ same_store : (ss : Schemas) (a b : List Node) (t u : List ℕ) (r q n k : ℕ)
 same_store ss a b t u r q n k e f g h = cc
 
 -- and the store has grown by it
-pub added_grown : (ss : Schemas) (h : Held) (xs : List Node) (text : List ℕ) (x : Node) (more : List ℕ)
-    → xs ≡ vec_items h.nodes ++ (x ∷ []) → text ≡ vec_items h.text ++ more
+pub added_grown : (ss : Schemas) (h : Held) (nodes : Limited Node) (text : Limited ℕ) (x : Node) (more : List ℕ)
+    → nodes ≡ record { items = h.nodes.items ++ (x ∷ []); limit = h.nodes.limit }
+    → text ≡ record { items = h.text.items ++ more; limit = h.text.limit }
     → ◌≡◌ {A = Store}
-    (record { schemas = ss; nodes = reverse xs; text = text; records = h.records; bytes = h.bytes })
+    (record {
+      schemas = ss;
+      nodes = reverse nodes.items;
+      text = text.items;
+      records = nodes.limit;
+      bytes = text.limit;
+    })
     (grown x more (store ss h))
-added_grown ss h xs text x more nodes bytes =
+added_grown ss h nodes text x more e f =
     same_store ss _ _ _ _ _ _ _ _
-    (ap (λ (z : List Node). reverse z) nodes ∙ reverse-append (vec_items h.nodes) (x ∷ [])) bytes refl refl
+    (ap (λ (z : Limited Node). reverse z.items) e ∙ reverse-append h.nodes.items (x ∷ []))
+    (ap (λ (z : Limited ℕ). z.items) f) (ap (λ (z : Limited Node). z.limit) e) (ap (λ (z : Limited ℕ). z.limit) f)

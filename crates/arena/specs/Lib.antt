@@ -1,13 +1,15 @@
+pub mod ArenaModel
 pub mod Bound
 pub mod Building
 pub mod Drafting
 pub mod Loose
 pub mod Opened
-pub mod OpenedUnbound
 pub mod Placing
 pub mod Reading
 pub mod Rebuilding
 pub mod Reserving
+pub mod Rooms
 pub mod Standing
 pub mod Surveying
 pub mod Trials
+pub mod UnboundModel

@@ -1,20 +1,28 @@
--- An arena's parts as the value that its calls are defined on.
-use Rattle.std.specs.Prelude.{reverse, vec_items}
-use Rattle.schemas.specs.declared.tables.Schemas.{Schemas as Declared}
+-- An arena's parts as values.
+use Rattle.std.specs.Prelude.{ℕ, reverse}
 use Rattle.meaning.specs.Columns.{Schemas}
 use Rattle.model.specs.Stores.{Store}
 use Rattle.arena.specs.declared.memory.Memory.{Memory}
+
+-- how many records the memory has room for
+abbrev pub records_of : Memory → ℕ
+records_of m = m.nodes.limit
+
+-- how many bytes of text
+abbrev pub bytes_of : Memory → ℕ
+bytes_of m = m.text.limit
 
 -- schemas by their columns, nodes with the newest first, text, and the limits
 abbrev pub store : Schemas → Memory → Store
 store ss m = record {
   schemas = ss;
-  nodes = reverse (vec_items m.nodes);
-  text = vec_items m.text;
-  records = m.records;
-  bytes = m.bytes;
+  nodes = reverse m.nodes.items;
+  text = m.text.items;
+  records = m.nodes.limit;
+  bytes = m.text.limit;
 }
 
--- the same over the schemas that were declared
-abbrev pub opened : Declared → Memory → Store
-opened ss m = store ss m
+-- an opened arena: the store, and the host that its nodes are bound against
+pub record Opened (H : Type 0) : Type 0 where
+  pub store : Store
+  pub host : H

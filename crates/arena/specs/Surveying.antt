@@ -11,22 +11,31 @@ use Rattle.arena.specs.declared.bounds.Kin.{Kin}
 
 -- of no children
 abbrev pub no_kin : Kin
-no_kin = record { types = replicate 8 (record { kind = kind.Bool; nullable = false }); depth = 0; size = 0 }
+no_kin = record {
+  types = replicate 8 (record { kind = kind.Bool; nullable = false });
+  count = 0;
+  depth = 0;
+  size = 0;
+}
 
--- with one more, at place i
-abbrev pub with_child : ℕ → Kin → Node → Kin
-with_child i k x =
-    record { types = slice_set k.types i x.dtype; depth = max k.depth x.depth; size = k.size + x.size }
+-- with one more
+abbrev pub with_child : Kin → Node → Kin
+with_child k x = record {
+  types = slice_set k.types k.count x.dtype;
+  count = k.count + 1;
+  depth = max k.depth x.depth;
+  size = k.size + x.size;
+}
 
--- with more, the first at place i
-abbrev pub with_more : ℕ → Kin → List Node → Kin
-with_more i k [] = k
-with_more i k (x ∷ xs) = with_more (i + 1) (with_child i k x) xs
+-- with more
+abbrev pub with_more : Kin → List Node → Kin
+with_more k [] = k
+with_more k (x ∷ xs) = with_more (with_child k x) xs
 
 -- with those that were looked up, or the refusal of the first that is no node
-abbrev pub surveyed : ℕ → Kin → Result (List Node) ℕ → Result Kin Refusal
-surveyed i k (Ok xs) = Ok (with_more i k xs)
-surveyed i k (Err n) = Err (Memory (NoSuchNode n))
+abbrev pub surveyed : Kin → Result (List Node) ℕ → Result Kin Refusal
+surveyed k (Ok xs) = Ok (with_more k xs)
+surveyed k (Err n) = Err (Memory (NoSuchNode n))
 
 -- the depth of a node over children of that depth
 abbrev pub deeper : ℕ → ℕ → Result ℕ BindingRefusal

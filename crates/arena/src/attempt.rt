@@ -1,4 +1,4 @@
-ghost use Rattle.std.specs.Prelude.{◌≡◌, ◌≤◌, true, reverse, take, vec_len};
+ghost use Rattle.std.specs.Prelude.{◌≡◌, ◌≤◌, true, length, reverse, take};
 ghost use Rattle.arena.specs.Standing.{all_stand};
 
 use crate::arena::Arena;
@@ -12,7 +12,7 @@ pub struct Attempt<'a, H: Host> {
     pub(crate) nodes: usize,
     /// How many bytes of text there were.
     pub(crate) text: usize,
-    ghost fewer: { nodes ≤ vec_len arena.now.memory.nodes },
-    ghost shorter: { text ≤ vec_len arena.now.memory.text },
-    ghost before: { all_stand text (reverse (take nodes arena.now.memory.nodes.items)) ≡ true },
+    ghost fewer: { nodes ≤ length arena.now.store.nodes },
+    ghost shorter: { text ≤ length arena.now.store.text },
+    ghost before: { all_stand text (reverse (take nodes (reverse arena.now.store.nodes))) ≡ true },
 }

@@ -1,8 +1,7 @@
-ghost use Rattle.std.specs.Prelude.{◌≡◌, vec_len};
+ghost use Rattle.std.specs.Prelude.{◌≡◌, length};
 ghost use Rattle.model.specs.Making.{make};
 ghost use Rattle.model.specs.Rebuilding.{with_children};
 ghost use Rattle.typing.specs.Asked.{new_of};
-ghost use Rattle.arena.specs.Opened.{opened};
 ghost use Rattle.arena.specs.Trials.{taken_back};
 
 use crate::arena::Arena;
@@ -16,8 +15,8 @@ impl<'a, H: Host> Attempt<'a, H> {
     pub fn begin(arena: &'a mut Arena<H>) -> Attempt<'a, H>
         ensures same { result.arena.ghost_name ≡ arena.entry.ghost_name }
         ensures arena { result.arena.now ≡ arena.old }
-        ensures nodes { result.nodes ≡ vec_len arena.old.memory.nodes }
-        ensures text { result.text ≡ vec_len arena.old.memory.text }
+        ensures nodes { result.nodes ≡ length arena.old.store.nodes }
+        ensures text { result.text ≡ length arena.old.store.text }
     {
         Attempt::mark(arena)
     }
@@ -30,49 +29,39 @@ impl<'a, H: Host> Attempt<'a, H> {
     }
 
     /// Makes a node on trial.
-    pub fn try_new(
-        &mut self,
-        function: NewFunction<'_>,
-        children: [u32; 8],
-        count: u8,
-    ) -> Result<u32, Refusal>
-        ensures answer { result ≡ (make (H.Host.meaning self.old.arena.now.binder.host)
-            (new_of function.entry) children count
-            (opened self.old.arena.now.binder.schemas self.old.arena.now.memory)).0 }
-        ensures after { opened self.new.arena.now.binder.schemas
-            self.new.arena.now.memory
-            ≡ (make (H.Host.meaning self.old.arena.now.binder.host) (new_of function.entry)
-            children count
-            (opened self.old.arena.now.binder.schemas self.old.arena.now.memory)).1 }
-        ensures binder { self.new.arena.now.binder ≡ self.old.arena.now.binder }
+    pub fn try_new(&mut self, function: NewFunction<'_>, children: &[u32]) -> Result<u32, Refusal>
+        ensures answer { result ≡ (make (H.Host.meaning self.old.arena.now.host)
+            (new_of function.entry) children.now (length children.now)
+            self.old.arena.now.store).0 }
+        ensures after { self.new.arena.now.store
+            ≡ (make (H.Host.meaning self.old.arena.now.host) (new_of function.entry)
+            children.now (length children.now)
+            self.old.arena.now.store).1 }
+        ensures schemas { self.new.arena.now.store.schemas ≡ self.old.arena.now.store.schemas }
+        ensures host { self.new.arena.now.host ≡ self.old.arena.now.host }
         ensures same { self.new.arena.ghost_name ≡ self.old.arena.ghost_name }
         ensures nodes { self.new.nodes ≡ self.old.nodes }
         ensures text { self.new.text ≡ self.old.text }
     {
-        self.make(function, children, count)
+        self.make(function, children)
     }
 
     /// Makes a node on trial, of the function of another over other children.
-    pub fn with_children(
-        &mut self,
-        node: u32,
-        children: [u32; 8],
-        count: u8,
-    ) -> Result<u32, Refusal>
-        ensures answer { result ≡ (with_children (H.Host.meaning self.old.arena.now.binder.host)
-            node children count
-            (opened self.old.arena.now.binder.schemas self.old.arena.now.memory)).0 }
-        ensures after { opened self.new.arena.now.binder.schemas
-            self.new.arena.now.memory
-            ≡ (with_children (H.Host.meaning self.old.arena.now.binder.host) node
-            children count
-            (opened self.old.arena.now.binder.schemas self.old.arena.now.memory)).1 }
-        ensures binder { self.new.arena.now.binder ≡ self.old.arena.now.binder }
+    pub fn with_children(&mut self, node: u32, children: &[u32]) -> Result<u32, Refusal>
+        ensures answer { result ≡ (with_children (H.Host.meaning self.old.arena.now.host)
+            node children.now (length children.now)
+            self.old.arena.now.store).0 }
+        ensures after { self.new.arena.now.store
+            ≡ (with_children (H.Host.meaning self.old.arena.now.host) node
+            children.now (length children.now)
+            self.old.arena.now.store).1 }
+        ensures schemas { self.new.arena.now.store.schemas ≡ self.old.arena.now.store.schemas }
+        ensures host { self.new.arena.now.host ≡ self.old.arena.now.host }
         ensures same { self.new.arena.ghost_name ≡ self.old.arena.ghost_name }
         ensures nodes { self.new.nodes ≡ self.old.nodes }
         ensures text { self.new.text ≡ self.old.text }
     {
-        self.rebuild(node, children, count)
+        self.rebuild(node, children)
     }
 
     /// Leaves what was made.
@@ -88,10 +77,20 @@ impl<'a, H: Host> Attempt<'a, H> {
 
     /// Takes back what was made.
     pub fn take_back(self)
-        ensures after { opened self.exit.0.now.binder.schemas self.exit.0.now.memory
-            ≡ taken_back self.entry.nodes self.entry.text
-            (opened self.entry.arena.now.binder.schemas self.entry.arena.now.memory) }
-        ensures binder { self.exit.0.now.binder ≡ self.entry.arena.now.binder }
+        ensures after { self.exit.0.now.store
+            ≡ taken_back self.entry.nodes self.entry.text self.entry.arena.now.store }
+        ensures schemas { self.exit.0.now.store.schemas ≡ self.entry.arena.now.store.schemas }
+        ensures host { self.exit.0.now.host ≡ self.entry.arena.now.host }
+    {
+        self.cut()
+    }
+
+    /// Cuts the arena off at the marks.
+    fn cut(self)
+        ensures after { self.exit.0.now.store
+            ≡ taken_back self.entry.nodes self.entry.text self.entry.arena.now.store }
+        ensures schemas { self.exit.0.now.store.schemas ≡ self.entry.arena.now.store.schemas }
+        ensures host { self.exit.0.now.host ≡ self.entry.arena.now.host }
     {
         let Attempt { arena, nodes, text } = self;
         arena.memory.cut(nodes, text);
@@ -101,8 +100,8 @@ impl<'a, H: Host> Attempt<'a, H> {
     fn mark(arena: &'a mut Arena<H>) -> Attempt<'a, H>
         ensures same { result.arena.ghost_name ≡ arena.entry.ghost_name }
         ensures arena { result.arena.now ≡ arena.old }
-        ensures nodes { result.nodes ≡ vec_len arena.old.memory.nodes }
-        ensures text { result.text ≡ vec_len arena.old.memory.text }
+        ensures nodes { result.nodes ≡ length arena.old.store.nodes }
+        ensures text { result.text ≡ length arena.old.store.text }
     {
         let nodes = arena.memory.nodes.len();
         let text = arena.memory.text.len();
@@ -110,43 +109,38 @@ impl<'a, H: Host> Attempt<'a, H> {
     }
 
     /// Making: what was there before stays in front.
-    fn make(
-        &mut self,
-        function: NewFunction<'_>,
-        children: [u32; 8],
-        count: u8,
-    ) -> Result<u32, Refusal>
-        ensures answer { result ≡ (make (H.Host.meaning self.old.arena.now.binder.host)
-            (new_of function.entry) children count
-            (opened self.old.arena.now.binder.schemas self.old.arena.now.memory)).0 }
-        ensures after { opened self.new.arena.now.binder.schemas
-            self.new.arena.now.memory
-            ≡ (make (H.Host.meaning self.old.arena.now.binder.host) (new_of function.entry)
-            children count
-            (opened self.old.arena.now.binder.schemas self.old.arena.now.memory)).1 }
-        ensures binder { self.new.arena.now.binder ≡ self.old.arena.now.binder }
+    fn make(&mut self, function: NewFunction<'_>, children: &[u32]) -> Result<u32, Refusal>
+        ensures answer { result ≡ (make (H.Host.meaning self.old.arena.now.host)
+            (new_of function.entry) children.now (length children.now)
+            self.old.arena.now.store).0 }
+        ensures after { self.new.arena.now.store
+            ≡ (make (H.Host.meaning self.old.arena.now.host) (new_of function.entry)
+            children.now (length children.now)
+            self.old.arena.now.store).1 }
+        ensures schemas { self.new.arena.now.store.schemas ≡ self.old.arena.now.store.schemas }
+        ensures host { self.new.arena.now.host ≡ self.old.arena.now.host }
         ensures same { self.new.arena.ghost_name ≡ self.old.arena.ghost_name }
         ensures nodes { self.new.nodes ≡ self.old.nodes }
         ensures text { self.new.text ≡ self.old.text }
     {
-        self.arena.try_new(function, children, count)
+        self.arena.try_new(function, children)
     }
 
     /// Rebuilding: what was there before stays in front.
-    fn rebuild(&mut self, node: u32, children: [u32; 8], count: u8) -> Result<u32, Refusal>
-        ensures answer { result ≡ (with_children (H.Host.meaning self.old.arena.now.binder.host)
-            node children count
-            (opened self.old.arena.now.binder.schemas self.old.arena.now.memory)).0 }
-        ensures after { opened self.new.arena.now.binder.schemas
-            self.new.arena.now.memory
-            ≡ (with_children (H.Host.meaning self.old.arena.now.binder.host) node
-            children count
-            (opened self.old.arena.now.binder.schemas self.old.arena.now.memory)).1 }
-        ensures binder { self.new.arena.now.binder ≡ self.old.arena.now.binder }
+    fn rebuild(&mut self, node: u32, children: &[u32]) -> Result<u32, Refusal>
+        ensures answer { result ≡ (with_children (H.Host.meaning self.old.arena.now.host)
+            node children.now (length children.now)
+            self.old.arena.now.store).0 }
+        ensures after { self.new.arena.now.store
+            ≡ (with_children (H.Host.meaning self.old.arena.now.host) node
+            children.now (length children.now)
+            self.old.arena.now.store).1 }
+        ensures schemas { self.new.arena.now.store.schemas ≡ self.old.arena.now.store.schemas }
+        ensures host { self.new.arena.now.host ≡ self.old.arena.now.host }
         ensures same { self.new.arena.ghost_name ≡ self.old.arena.ghost_name }
         ensures nodes { self.new.nodes ≡ self.old.nodes }
         ensures text { self.new.text ≡ self.old.text }
     {
-        self.arena.with_children(node, children, count)
+        self.arena.with_children(node, children)
     }
 }

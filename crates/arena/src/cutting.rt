@@ -1,4 +1,4 @@
-ghost use Rattle.std.specs.Prelude.{◌≡◌, ◌≤◌, true, reverse, take, vec_len};
+ghost use Rattle.std.specs.Prelude.{◌≡◌, ◌≤◌, true, reverse, take, length};
 ghost use Rattle.meaning.specs.Columns.{Schemas};
 ghost use Rattle.arena.specs.Opened.{store};
 ghost use Rattle.arena.specs.Standing.{all_stand};
@@ -9,12 +9,9 @@ use crate::memory::Memory;
 impl Memory {
     /// Lets go of all but the first `nodes` records, which stand in the first `text` bytes, and of the rest of the text.
     pub(crate) fn cut(&mut self, nodes: usize, text: usize)
-        requires within { text ≤ vec_len self.old.text }
+        requires within { text ≤ length self.old.text.items }
         requires standing { all_stand text (reverse (take nodes self.old.nodes.items)) ≡ true }
-        ensures after { (ss : Schemas) → store ss self.new
-            ≡ taken_back nodes text (store ss self.old) }
-        ensures nodes { self.new.nodes.items ≡ take nodes self.old.nodes.items }
-        ensures text { self.new.text.items ≡ take text self.old.text.items }
+        ensures { (ss : Schemas) → store ss self.new ≡ taken_back nodes text (store ss self.old) }
     {
         self.nodes.truncate(nodes);
         self.text.truncate(text);

@@ -15,6 +15,7 @@ pub mod reading;
 pub mod rebuilding;
 pub mod records;
 pub mod reserving;
+pub mod room;
 pub mod survey;
 pub mod unbound;
 pub mod unbound_making;

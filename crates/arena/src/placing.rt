@@ -10,15 +10,14 @@ impl Memory {
     pub(crate) fn span_for(&self, place: u32, more: usize) -> Result<Span, MemoryRefusal>
         ensures { result ≡ room_in place self.now more }
     {
-        if self.nodes.len() >= self.records {
+        if self.nodes.is_full() {
             return Err(MemoryRefusal::RecordsFull(place));
         }
-        let start = self.text.len();
-        if more > self.bytes - start {
+        if more > self.text.left() {
             return Err(MemoryRefusal::TextFull(place));
         }
         Ok(Span {
-            start: start as u32,
+            start: self.text.len() as u32,
             len: more as u32,
         })
     }

@@ -1,10 +1,9 @@
-ghost use Rattle.std.specs.Prelude.{◌≡◌, Ok};
+ghost use Rattle.std.specs.Prelude.{◌≡◌, reverse, Ok};
 ghost use Rattle.std.specs.Option.{option_map, ok_or};
 ghost use Rattle.vocabulary.specs.declared.refusals.BindingRefusal.TheVariants.{WrongChildCount};
 ghost use Rattle.vocabulary.specs.declared.refusals.Refusal.TheVariants.{Binding};
 ghost use Rattle.vocabulary.specs.Nodes.{child_at, text_of};
 ghost use Rattle.meaning.specs.HostCode.{part};
-ghost use Rattle.arena.specs.Opened.{opened};
 ghost use Rattle.arena.specs.Reading.{of_node, read_bytes};
 
 use crate::arena::Arena;
@@ -17,7 +16,7 @@ use vocabulary::types::DType;
 impl<H: Host> Arena<H> {
     /// The record of a node.
     pub fn record(&self, node: u32) -> Result<Node, Refusal>
-        ensures { result ≡ of_node (opened self.now.binder.schemas self.now.memory) node
+        ensures { result ≡ of_node self.now.store node
             (λ x. Ok x) }
     {
         Ok(*self.memory.node(node)?)
@@ -25,7 +24,7 @@ impl<H: Host> Arena<H> {
 
     /// The type of a node.
     pub fn dtype(&self, node: u32) -> Result<DType, Refusal>
-        ensures { result ≡ of_node (opened self.now.binder.schemas self.now.memory) node
+        ensures { result ≡ of_node self.now.store node
             (λ x. Ok x.dtype) }
     {
         Ok(self.memory.node(node)?.dtype)
@@ -33,7 +32,7 @@ impl<H: Host> Arena<H> {
 
     /// How many children a node has.
     pub fn child_count(&self, node: u32) -> Result<u8, Refusal>
-        ensures { result ≡ of_node (opened self.now.binder.schemas self.now.memory) node
+        ensures { result ≡ of_node self.now.store node
             (λ x. Ok x.child_count) }
     {
         Ok(self.memory.node(node)?.child_count)
@@ -41,51 +40,47 @@ impl<H: Host> Arena<H> {
 
     /// The child of a node at that position. Where there is none, the node has the wrong child count.
     pub fn child(&self, node: u32, position: u8) -> Result<u32, Refusal>
-        ensures { result ≡ of_node (opened self.now.binder.schemas self.now.memory) node
+        ensures { result ≡ of_node self.now.store node
             (λ x. ok_or (child_at x position) (Binding (WrongChildCount node))) }
     {
-        match self.memory.node(node)?.child(position) {
-            Some(child) => Ok(child),
-            None => Err(BindingRefusal::WrongChildCount(node).into()),
-        }
+        let child = self.memory.node(node)?.child(position);
+        Ok(child.ok_or(BindingRefusal::WrongChildCount(node))?)
     }
 
     /// A literal's text or a name, by its bytes. Other nodes have none.
     pub fn text_of(&self, node: u32) -> Result<Option<&[u8]>, Refusal>
-        ensures { read_bytes result ≡ of_node (opened self.now.binder.schemas self.now.memory) node
-            (λ x. Ok (option_map (part (opened self.now.binder.schemas self.now.memory).text)
+        ensures { read_bytes result ≡ of_node self.now.store node
+            (λ x. Ok (option_map (part self.now.store.text)
             (text_of x.function))) }
     {
-        match self.memory.node(node)?.text() {
-            Some(span) => Ok(Some(self.memory.text_at(span))),
-            None => Ok(None),
-        }
+        let span = self.memory.node(node)?.text();
+        Ok(span.map(|span| self.memory.text_at(span)))
     }
 
     /// The records, each at its number.
     pub fn nodes(&self) -> &[Node]
-        ensures { result.now ≡ self.now.memory.nodes.items }
+        ensures { result.now ≡ reverse self.now.store.nodes }
     {
         self.memory.nodes.as_slice()
     }
 
     /// The text: names, and the texts of literals.
     pub fn text(&self) -> &[u8]
-        ensures { result.now ≡ self.now.memory.text.items }
+        ensures { result.now ≡ self.now.store.text }
     {
         self.memory.text.as_slice()
     }
 
     /// The host that the arena was opened with.
     pub fn host(&self) -> &H
-        ensures { result.now ≡ self.now.binder.host }
+        ensures { result.now ≡ self.now.host }
     {
         &self.binder.host
     }
 
     /// The schemas that were declared.
     pub fn schemas(&self) -> &Schemas
-        ensures { result.now ≡ self.now.binder.schemas }
+        ensures { result.now ≡ self.now.store.schemas }
     {
         &self.binder.schemas
     }

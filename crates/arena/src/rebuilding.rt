@@ -1,9 +1,10 @@
-ghost use Rattle.std.specs.Prelude.{◌≡◌, []};
+ghost use Rattle.std.specs.Prelude.{◌≡◌, [], length};
 ghost use Rattle.vocabulary.specs.Types.{carried};
 ghost use Rattle.meaning.specs.Columns.{Schemas};
 ghost use Rattle.meaning.specs.HostCode.{read};
 ghost use Rattle.typing.specs.Asked.{new_of, value_of};
 ghost use Rattle.arena.specs.Building.{rebuild_by};
+ghost use Rattle.arena.specs.Drafting.{drafted};
 ghost use Rattle.arena.specs.Opened.{store};
 ghost use Rattle.arena.specs.Rebuilding.{again, is_itself};
 
@@ -17,27 +18,43 @@ use vocabulary::types::Kind;
 use vocabulary::values::Value;
 
 impl Memory {
-    /// Makes a node of the same function, on the same text, over the first `count` of the children. A Root with no
-    /// children is itself.
+    /// Makes a node of the same function, on the same text, over the children. A Root over none is itself.
     pub(crate) fn rebuild<T: Typist>(
         &mut self,
         typist: &T,
         node: u32,
-        children: [u32; 8],
-        count: u8,
+        children: &[u32],
     ) -> Result<u32, Refusal>
         ensures answer { (ss : Schemas) → result ≡ (rebuild_by (T.Typist.typing typist.now) node
-            children count (store ss self.old)).0 }
+            children.now (length children.now) (store ss self.old)).0 }
         ensures after { (ss : Schemas) → store ss self.new ≡ (rebuild_by
-            (T.Typist.typing typist.now) node children count (store ss self.old)).1 }
+            (T.Typist.typing typist.now) node children.now (length children.now)
+            (store ss self.old)).1 }
     {
         let old = *self.node(node)?;
-        if is_itself(old.function, count) {
+        if is_itself(old.function, children.len()) {
             return Ok(node);
         }
-        let asked = self.asked_again(&old);
-        let draft = self.draft(typist, node, &asked, children, count, 0)?;
-        Ok(self.enter(draft.record(old.function, children, count), &[]))
+        let anew = self.redraft(typist, node, &old, children)?;
+        Ok(self.enter(anew, &[]))
+    }
+
+    /// The record of a node over other children.
+    fn redraft<T: Typist>(
+        &self,
+        typist: &T,
+        node: u32,
+        old: &Node,
+        children: &[u32],
+    ) -> Result<Node, Refusal>
+        ensures { result ≡ drafted (T.Typist.typing typist.now) self.now node
+            (again self.now.text.items old.now.dtype old.now.function)
+            (λ _. old.now.function) 0 children.now (length children.now) }
+    {
+        let asked = self.asked_again(old);
+        let bound = self.bind(typist, node, &asked, children)?;
+        self.span_for(node, 0)?;
+        Ok(bound.record(old.function, children))
     }
 
     /// What the node was asked for, its text as it was recorded.
@@ -63,17 +80,17 @@ impl Memory {
         ensures { value_of result ≡ read self.now.text.items [] value }
     {
         value.map(|text| {
-            Texts {
+            let texts = Texts {
                 arena: self.text.as_slice(),
                 row: &[],
-            }
-            .bytes_of(text)
+            };
+            texts.bytes_of(text)
         })
     }
 }
 
 /// Whether a node over so many children is itself: a Root over none.
-fn is_itself(function: Function, count: u8) -> bool
+fn is_itself(function: Function, count: usize) -> bool
     ensures { result ≡ is_itself function count }
 {
     matches!(function, Function::Root) && count == 0

@@ -17,12 +17,9 @@ impl Memory {
         ensures { result_map_both (λ x. x.now) (λ e. e) result
             ≡ ok_or (node_among (reverse self.now.nodes.items) number) (NoSuchNode number) }
     {
-        let at = number as usize;
-        if at < self.nodes.len() {
-            Ok(&self.nodes[at])
-        } else {
-            Err(MemoryRefusal::NoSuchNode(number))
-        }
+        self.nodes
+            .get(number as usize)
+            .ok_or(MemoryRefusal::NoSuchNode(number))
     }
 
     /// The bytes of that part of the text.

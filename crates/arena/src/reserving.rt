@@ -1,8 +1,7 @@
-ghost use Rattle.std.specs.Prelude.{◌≡◌, ◌≤◌, [], vec_len, vec_capacity, MatchResult};
-ghost use Rattle.vocabulary.specs.declared.refusals.MemoryRefusal.TheVariants.{NoHeap};
 ghost use Rattle.arena.specs.Reserving.{Reserved};
 
 use crate::memory::Memory;
+use crate::room::Room;
 use std::alloc::Global;
 use vocabulary::refusals::{MemoryRefusal, Refusal};
 
@@ -20,23 +19,8 @@ impl Memory {
         if records < 1 || records > MAX_RECORDS || bytes > MAX_BYTES {
             return Err(MemoryRefusal::OutsideLimits.into());
         }
-        let nodes = room(heap, records)?;
-        let text = room(heap, bytes)?;
-        Ok(Memory {
-            nodes,
-            text,
-            records,
-            bytes,
-        })
-    }
-}
-
-/// An empty vector with room for so many.
-fn room<T>(heap: Global, capacity: usize) -> Result<Vec<T>, MemoryRefusal>
-    ensures { MatchResult result (λ v. (v.items ≡ []) × (vec_len v ≡ 0) × (capacity ≤ vec_capacity v)) (λ e. e ≡ NoHeap) }
-{
-    match Vec::with_capacity(heap, capacity) {
-        Ok(empty) => Ok(empty),
-        Err(_) => Err(MemoryRefusal::NoHeap),
+        let nodes = Room::reserve(heap, records)?;
+        let text = Room::reserve(heap, bytes)?;
+        Ok(Memory { nodes, text })
     }
 }

@@ -1,4 +1,4 @@
-ghost use Rattle.std.specs.Prelude.{◌≡◌, min, [], take};
+ghost use Rattle.std.specs.Prelude.{◌≡◌, ◌≤◌, [], take, length, IfOk};
 ghost use Rattle.model.specs.Making.{looked_up, named};
 ghost use Rattle.arena.specs.Opened.{store};
 ghost use Rattle.arena.specs.Surveying.{surveyed, no_kin, deeper, larger};
@@ -16,34 +16,37 @@ pub const MAX_DEPTH: u16 = 256;
 pub const MAX_SIZE: u32 = 4096;
 
 impl Memory {
-    /// Looks at the first `count` of the children, at most eight, up to the first that is no node.
-    pub(crate) fn survey(&self, children: [u32; 8], count: u8) -> Result<Kin, Refusal>
-        ensures { result ≡ surveyed 0 no_kin
-            (looked_up (store [] self.now) (named children count)) }
+    /// Looks at the children, at most eight, up to the first that is no node.
+    pub(crate) fn survey(&self, children: &[u32]) -> Result<Kin, Refusal>
+        ensures kin { result ≡ surveyed no_kin
+            (looked_up (store [] self.now) (named children.now (length children.now))) }
+        ensures few { IfOk result (λ k. k.count ≤ 8) }
     {
         let mut kin = Kin {
             types: [DType::new(Kind::Bool, false); 8],
+            count: 0,
             depth: 0,
             size: 0,
         };
-        let used = count.min(MAX_CHILDREN) as usize;
-        for i in 0..used {
-            let node = self.node(children[i])?;
-            kin.types[i] = node.dtype;
+        let first = &children[..children.len().min(usize::from(MAX_CHILDREN))];
+        for &child in first {
+            let node = self.node(child)?;
+            kin.types[kin.count] = node.dtype;
+            kin.count += 1;
             kin.depth = kin.depth.max(node.depth);
-            kin.size += node.size as u32;
+            kin.size += u32::from(node.size);
         }
         Ok(kin)
     }
 }
 
 impl Kin {
-    /// The types of the first `count` of them, at most eight.
-    pub(crate) fn types(&self, count: u8) -> &[DType]
-        ensures { result.now ≡ take (min count 8) self.now.types }
+    /// The types of the children.
+    pub(crate) fn types(&self) -> &[DType]
+        requires { self.now.count ≤ 8 }
+        ensures { result.now ≡ take self.now.count self.now.types }
     {
-        let used = count.min(MAX_CHILDREN) as usize;
-        &self.types[0..used]
+        &self.types[..self.count]
     }
 
     /// The depth of a node over them.

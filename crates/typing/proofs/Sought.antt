@@ -1,15 +1,16 @@
 -- The type of a column, by looking it up.
 use Rattle.std.proofs.Common.{◌≡◌, ℕ, zero, suc, ◌<◌, ◌≤◌, Bool, true, false, ltb, List, [], ◌∷◌, length, get_or}
-use Rattle.std.proofs.Common.{Some, None, Option, refl, ap, ◌∙◌, arith}
+use Rattle.std.proofs.Common.{Some, None, Option, sym, refl, ap, ◌∙◌, arith}
 use Rattle.std.proofs.lemmas.Bool.{ltb-true, ltb-false}
-use Rattle.std.specs.Option.{option_map}
+use Rattle.std.specs.Option.{option_map, option_flatten}
+use Rattle.std.specs.Result.{result_ok}
 use Rattle.vocabulary.specs.declared.types.DType.{DType}
+use Rattle.schemas.specs.declared.found.Found.{Found}
 use Rattle.schemas.specs.AllSchemas.{sought}
 use Rattle.schemas.specs.Fields.{Field, found}
 use Rattle.meaning.specs.Columns.{Schemas, column_type}
 use Rattle.meaning.specs.Lists.{nth}
 use Rattle.meaning.specs.Outcomes.{and_then}
-use Rattle.typing.specs.Typing.{type_found}
 
 nth_there : {A : Type 0} (ys : List A) (n : ℕ) (d : A) → n < length ys → nth ys n ≡ Some (get_or ys n d)
 nth_there [] n d h = absurd (omega arith)
@@ -27,11 +28,13 @@ column name o = and_then o (λ fs. option_map (λ c. c.dtype) (found name fs))
 
 -- a column's type is that of what is found under its name
 pub column_sought : (fss : Schemas) (s : ℕ) (name : List ℕ) → length fss ≡ 8
-    → column_type fss s name ≡ type_found (sought s name fss)
+    → (o : Option Found) → o ≡ option_flatten (result_ok (sought s name fss))
+    → column_type fss s name ≡ option_map (λ (f : Found). f.dtype) o
 unfolding column_type
-column_sought fss s name l = go (ltb s 8) refl
+column_sought fss s name l o is = go (ltb s 8) refl ∙ ap (option_map (λ (f : Found). f.dtype)) (sym is)
   where
-    go : (b : Bool) → ltb s 8 ≡ b → column_type fss s name ≡ type_found (sought s name fss)
+    go : (b : Bool) → ltb s 8 ≡ b
+        → column_type fss s name ≡ option_map (λ (f : Found). f.dtype) (option_flatten (result_ok (sought s name fss)))
     go true e =
         let h = ltb-true s 8 e in
         ap (column name) (nth_there fss s [] (omega arith)) ∙ rw e refl

@@ -1,18 +1,16 @@
 -- The type of a node that is asked for: codes, counts and types.
 use Rattle.std.specs.Prelude.{ℕ, Bool, true, false, cond, ◌&&◌, List, Some, None, Ok, Err, Option, Result, ◌==◌}
 use Rattle.std.specs.Prelude.{nat_le}
-use Rattle.std.specs.Option.{option_map, ok_or}
+use Rattle.std.specs.Option.{ok_or}
 use Rattle.vocabulary.specs.declared.operators.Family.{Family}
 use Rattle.vocabulary.specs.declared.operators.Family.TheVariants.{Compare, Connect, Compute}
 use Rattle.vocabulary.specs.declared.operators.Operator.{Operator}
 use Rattle.vocabulary.specs.declared.refusals.BindingRefusal.{BindingRefusal}
 use Rattle.vocabulary.specs.declared.refusals.BindingRefusal.TheVariants.{NoSuchCode, WrongChildCount, DoesNotBind}
-use Rattle.vocabulary.specs.declared.refusals.Refusal.{Refusal}
 use Rattle.vocabulary.specs.declared.types.DType.{DType}
 use Rattle.vocabulary.specs.declared.types.Kind.TheVariants as kind
 use Rattle.vocabulary.specs.Operators.{family_of}
 use Rattle.vocabulary.specs.Types.{plain_kind}
-use Rattle.schemas.specs.declared.found.Found.{Found}
 use Rattle.meaning.specs.Columns.{Schemas}
 use Rattle.meaning.specs.Hosts.{Meaning, host_type}
 use Rattle.meaning.specs.Lists.{of_none, of_one, of_two, of_three}
@@ -59,11 +57,6 @@ family_type o t u = type_in (family_of o) t u
 -- the type of a literal
 abbrev pub literal_type : DType → Value → Option DType
 literal_type t v = cond (fits v t && plain_kind t.kind) (Some t) None
-
--- the type of a column that was looked up
-abbrev pub type_found : Result (Option Found) Refusal → Option DType
-type_found (Ok o) = option_map (λ (f : Found). f.dtype) o
-type_found (Err e) = None
 
 -- the type of the function over children of those types
 abbrev pub asked_type : Meaning → Schemas → New → List DType → Option DType

@@ -4,16 +4,16 @@ ghost use Rattle.meaning.specs.Typing.{item_type};
 ghost use Rattle.meaning.specs.Values.{fits};
 ghost use Rattle.typing.specs.Asked.{new_of, value_of};
 ghost use Rattle.typing.specs.Typing.{asked_known, asked_counts, asked_type, literal_type};
-ghost use Rattle.typing.specs.Typing.{bound_typing, type_found};
+ghost use Rattle.typing.specs.Typing.{bound_typing};
 
 use crate::asking::{NewFunction, NewLiteral};
 use crate::operands::{between_type, binary_type, cast_type};
 use crate::typist::Typist;
 use meaning::calls::call_type;
 use meaning::host::Host;
-use schemas::found::Found;
 use schemas::tables::Schemas;
-use vocabulary::refusals::{BindingRefusal, Refusal};
+use vocabulary::nodes::MAX_CHILDREN;
+use vocabulary::refusals::BindingRefusal;
 use vocabulary::types::{DType, Kind};
 
 /// What nodes are bound against: the schemas and the host.
@@ -31,7 +31,7 @@ impl<H: Host> Typist for Binder<H> {
         &self,
         place: u32,
         asked: &NewFunction<'_>,
-        count: u8,
+        count: usize,
         types: &[DType],
     ) -> Result<DType, BindingRefusal> {
         if !self.is_known(asked) {
@@ -57,12 +57,14 @@ impl<H: Host> Binder<H> {
     }
 
     /// Whether the function takes so many children.
-    fn takes(&self, asked: &NewFunction<'_>, count: u8) -> bool
+    fn takes(&self, asked: &NewFunction<'_>, count: usize) -> bool
         ensures { result ≡ asked_counts (H.Host.meaning self.now.host)
             (new_of asked.now) count }
     {
         match *asked {
-            NewFunction::Host(code) => asked.takes(count) && self.host.takes(code, count),
+            NewFunction::Host(code) => {
+                count <= usize::from(MAX_CHILDREN) && self.host.takes(code, count as u8)
+            }
             _ => asked.takes(count),
         }
     }
@@ -101,20 +103,12 @@ fn item_type(schemas: &Schemas, name: &[u8], row: Kind) -> Option<DType>
 fn column_type(schemas: &Schemas, schema: u8, name: &[u8]) -> Option<DType>
     ensures { result ≡ column_type schemas.now schema name.now }
 {
-    if schema as usize >= schemas.len() {
+    // Kept: the look-up refuses these too, but only this test tells the proof how many schemas there are.
+    if usize::from(schema) >= schemas.len() {
         return None;
     }
-    type_found(schemas.find(schema, name))
-}
-
-/// The type of a column that was looked up, if it was found.
-fn type_found(sought: Result<Option<Found>, Refusal>) -> Option<DType>
-    ensures { result ≡ type_found sought }
-{
-    match sought {
-        Ok(Some(found)) => Some(found.dtype),
-        Ok(None) | Err(_) => None,
-    }
+    let found = schemas.find(schema, name).ok().flatten()?;
+    Some(found.dtype)
 }
 
 /// The type of a literal, where it is plain and the value is one of its values.

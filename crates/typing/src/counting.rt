@@ -8,7 +8,7 @@ use vocabulary::nodes::MAX_CHILDREN;
 
 impl NewFunction<'_> {
     /// Whether the function takes so many children; one of a host may take up to eight.
-    pub fn takes(&self, count: u8) -> bool
+    pub fn takes(&self, count: usize) -> bool
         ensures { result ≡ asked_counts any_host (new_of self.now) count }
     {
         match *self {
@@ -16,7 +16,7 @@ impl NewFunction<'_> {
             NewFunction::GetItem(_) | NewFunction::Cast(_) => count == 1,
             NewFunction::Binary(_) => count == 2,
             NewFunction::Between(_) => count == 3,
-            NewFunction::Host(_) => count <= MAX_CHILDREN,
+            NewFunction::Host(_) => count <= usize::from(MAX_CHILDREN),
         }
     }
 }

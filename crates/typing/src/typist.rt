@@ -15,7 +15,7 @@ pub trait Typist {
         &self,
         place: u32,
         asked: &NewFunction<'_>,
-        count: u8,
+        count: usize,
         types: &[DType],
     ) -> Result<DType, BindingRefusal>
         ensures { result ≡ typing self.now place (new_of asked.now) count types.now };

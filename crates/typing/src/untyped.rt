@@ -16,7 +16,7 @@ impl Typist for Untyped {
         &self,
         place: u32,
         asked: &NewFunction<'_>,
-        count: u8,
+        count: usize,
         _types: &[DType],
     ) -> Result<DType, BindingRefusal> {
         if asked.takes(count) {

@@ -1,4 +1,4 @@
-ghost use Rattle.std.specs.Prelude.{◌≡◌, ◌≤◌, Some, None};
+ghost use Rattle.std.specs.Prelude.{◌≡◌, min, length, Some, None};
 ghost use Rattle.vocabulary.specs.Nodes.{padded, recorded, child_at, text_of, untyped};
 
 use crate::operators::*;
@@ -33,6 +33,7 @@ pub enum Function {
 pub struct Node<T = DType> {
     pub function: Function,
     /// The numbers of the children; those behind `child_count` are zero.
+    // Eight places and a count, since a record takes no memory beyond the arena's own.
     pub children: [u32; 8],
     pub child_count: u8,
     pub dtype: T,
@@ -45,34 +46,25 @@ pub struct Node<T = DType> {
 /// The record of an unbound node: it has no type, and so a Root no schema.
 pub type UnboundNode = Node<()>;
 
-/// The first `count` of the children, with zeros behind them.
-fn first_children(children: [u32; 8], count: u8) -> [u32; 8]
-    requires { count ≤ 8 }
-    ensures { result ≡ padded children count }
+/// The first eight of the children, with zeros behind them.
+fn first_children(children: &[u32]) -> [u32; 8]
+    ensures { result ≡ padded children.now (min (length children.now) 8) }
 {
-    let count = count as usize;
-    let mut kept = [0u32; 8];
-    kept[0..count].copy_from_slice(&children[0..count]);
+    let count = children.len().min(8);
+    let mut kept = [0; 8];
+    kept[..count].copy_from_slice(&children[..count]);
     kept
 }
 
 impl<T: Copy> Node<T> {
-    /// A record over the first `child_count` of the children, at most eight, with zeros behind them.
-    pub fn new(
-        function: Function,
-        children: [u32; 8],
-        child_count: u8,
-        dtype: T,
-        depth: u16,
-        size: u16,
-    ) -> Node<T>
-        ensures { result ≡ recorded function children child_count dtype depth size }
+    /// A record over the children, at most eight, with zeros behind them.
+    pub fn new(function: Function, children: &[u32], dtype: T, depth: u16, size: u16) -> Node<T>
+        ensures { result ≡ recorded function children.now (length children.now) dtype depth size }
     {
-        let child_count = child_count.min(MAX_CHILDREN);
         Node {
             function,
-            children: first_children(children, child_count),
-            child_count,
+            children: first_children(children),
+            child_count: children.len().min(8) as u8,
             dtype,
             depth,
             size,

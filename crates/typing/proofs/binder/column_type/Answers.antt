@@ -1,14 +1,18 @@
-use Rattle.std.proofs.Common.{sym, ap, ◌∙◌, arith}
-use Rattle.typing.specs.Typing.{type_found}
+use Rattle.std.proofs.Common.{Some, None, sym, ◌∙◌, arith}
 use Rattle.typing.proofs.Sought.{column_sought, column_past}
 use Rattle.typing.proofs.binder.column_type.Goals as goal
 
-pub returns-then-schema-len : goal.returns-then-schema-len
-returns-then-schema-len c =
+pub returns-then-from-len : goal.returns-then-from-len
+returns-then-from-len c =
     sym (column_past c.args.schemas.now c.args.schema c.args.name.now (omega arith))
 
 pub returns : goal.returns
 returns c =
-    let fss = c.args.schemas.now in
-    c.type_found.ensures ∙ ap type_found c.find.ensures
-    ∙ sym (column_sought fss c.args.schema c.args.name.now (omega arith))
+    sym (column_sought c.args.schemas.now c.args.schema c.args.name.now (omega arith)
+    (Some c.in_ok-found.found) (cc c.in_ok-found.was))
+
+pub returns-in_err-found : goal.returns-in_err-found
+returns-in_err-found c =
+    c.from_residual.ensures
+    ∙ sym (column_sought c.args.schemas.now c.args.schema c.args.name.now (omega arith) None
+    (cc c.in_err-found.was))

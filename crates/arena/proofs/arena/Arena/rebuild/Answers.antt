@@ -1,19 +1,22 @@
-use Rattle.std.proofs.Common.{ℕ, Result, refl, ap, ◌∙◌}
+use Rattle.std.proofs.Common.{ℕ, length, Result, ap, ◌∙◌}
 use Rattle.vocabulary.specs.declared.refusals.Refusal.{Refusal}
 use Rattle.model.specs.Stores.{Store}
-use Rattle.arena.specs.Opened.{opened}
-use Rattle.arena.proofs.AsModelled.{rebuilds_bound}
+use Rattle.arena.specs.ArenaModel.{opened}
+use Rattle.arena.proofs.AsModelled.{rebuilds_opened}
+use Rattle.arena.proofs.Kept.{same_opened}
 use Rattle.arena.proofs.arena.Arena.rebuild.Goals as goal
 
 pub returns : goal.returns
 returns g c =
-    let m = g.H.Host.meaning c.args.self.now.binder.host in
-    let ss = c.args.self.now.binder.schemas in
+    let cs = c.args.children.now in
+    let ss = c.self.inside.binder.schemas in
     let anew =
-    rebuilds_bound m c.args.node c.args.children c.args.count (opened ss c.args.self.now.memory)
+    rebuilds_opened g.H.Host.meaning (opened c.self.inside) c.args.self.now c.args.node cs (length cs) c.self.view_is
     in
+    let (stored, schemas, host) = same_opened (opened c.self.inside) c.args.self.now c.self.view_is in
     record {
       answer = c.rebuild.ensures.answer ss ∙ ap (λ (z : Result ℕ Refusal × Store). z.0) anew;
       after = c.rebuild.ensures.after ss ∙ ap (λ (z : Result ℕ Refusal × Store). z.1) anew;
-      binder = refl;
+      schemas = schemas;
+      host = host;
     }

@@ -1,18 +1,28 @@
-use Rattle.std.proofs.Common.{◌≡◌, ℕ, List, reverse, take, vec_items, ap, ◌∙◌, arith}
-use Rattle.std.proofs.lemmas.List.{take_all}
-use Rattle.vocabulary.specs.Nodes.{BoundNode as Node}
-use Rattle.arena.specs.Standing.{all_stand}
+use Rattle.std.proofs.Common.{length, refl, ap, ◌∙◌}
+use Rattle.model.specs.Stores.{Store}
+use Rattle.arena.specs.ArenaModel.{opened}
+use Rattle.arena.proofs.Drafts.{nodes_length}
+use Rattle.arena.proofs.Kept.{marked_at_end, same_opened}
 use Rattle.arena.proofs.attempt.Attempt.mark.Goals as goal
 
 pub invariant_of-result : goal.invariant_of-result
 invariant_of-result g c =
-    let h = c.args.arena.now.memory in
-    let whole : take c.len-nodes.result (vec_items h.nodes) ≡ vec_items h.nodes =
-    take_all c.len-nodes.result (vec_items h.nodes) (omega (arith, c.len-nodes.ensures, h.nodes.ok.0)) in
+    let a = c.arena.inside in
+    let (stored, schemas, host) = same_opened (opened a) c.args.arena.now c.arena.view_is in
+    let marked =
+    marked_at_end a.binder.schemas a.memory c.args.arena.now.store c.len-nodes.result c.len-text.result stored
+    c.len-nodes.ensures.value c.len-text.ensures.value
+    in
+    record { fewer = marked.fewer; shorter = marked.shorter; before = marked.before }
+
+pub returns : goal.returns
+returns g c =
+    let a = c.arena.inside in
+    let ss = a.binder.schemas in
+    let (stored, schemas, host) = same_opened (opened a) c.args.arena.now c.arena.view_is in
     record {
-      fewer = omega (arith, c.len-nodes.ensures);
-      shorter = omega (arith, c.len-text.ensures);
-      before =
-          ap (λ (xs : List Node). all_stand c.len-text.result (reverse xs)) whole
-          ∙ ap (λ (k : ℕ). all_stand k (reverse (vec_items h.nodes))) c.len-text.ensures ∙ h.sound;
+      same = refl;
+      arena = refl;
+      nodes = c.len-nodes.ensures.value ∙ nodes_length ss a.memory ∙ ap (λ (s : Store). length s.nodes) stored;
+      text = c.len-text.ensures.value ∙ ap (λ (s : Store). length s.text) stored;
     }

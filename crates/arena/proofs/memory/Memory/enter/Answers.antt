@@ -1,26 +1,30 @@
-use Rattle.std.proofs.Common.{arith}
+use Rattle.std.proofs.Common.{ℕ, length, ap, ◌∙◌, arith, length-append}
+use Rattle.vocabulary.specs.Nodes.{BoundNode as Node}
+use Rattle.arena.specs.Rooms.{Limited}
 use Rattle.arena.proofs.Stands.{added_stand, added_grown}
 use Rattle.arena.proofs.memory.Memory.enter.Goals as goal
 
 pub invariant_of-self : goal.invariant_of-self
 invariant_of-self c =
-    let e = c.append.ensures in
-    let f = c.push_reserved.ensures in
+    let h = c.args.self.now in
+    let more = c.args.more.now in
+    let records = ap (λ (z : Limited Node). z.limit) c.push.ensures in
+    let bytes = ap (λ (z : Limited ℕ). z.limit) c.extend.ensures in
     record {
-      few = omega arith;
-      short = omega arith;
-      numbered = omega arith;
-      addressed = omega arith;
-      roomy = omega arith;
-      spacious = omega arith;
-      sound = added_stand c.args.self.now _ _ c.args.node c.args.more.now f.items e.len c.requires.standing;
+      numbered = omega (arith, records, h.numbered);
+      addressed = omega (arith, bytes, h.addressed);
+      sound =
+          added_stand h c.push.new.self.items (length c.extend.new.self.items) c.args.node more
+          (ap (λ (z : Limited Node). z.items) c.push.ensures)
+          (ap (λ (z : Limited ℕ). length z.items) c.extend.ensures ∙ length-append h.text.items more)
+          c.requires.standing;
     }
 
 pub returns : goal.returns
 returns c = record {
-  number = c.len-number.ensures;
+  number = c.len-number.ensures.value;
   after =
       λ ss.
-      added_grown ss c.args.self.now _ _ c.args.node c.args.more.now c.push_reserved.ensures.items
-      c.append.ensures.items;
+      added_grown ss c.args.self.now c.push.new.self c.extend.new.self c.args.node c.args.more.now c.push.ensures
+      c.extend.ensures;
 }

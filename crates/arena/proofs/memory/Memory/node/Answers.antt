@@ -1,19 +1,21 @@
-use Rattle.std.proofs.Common.{Ok, vec_items, Option, sym, ap, ◌∙◌, arith}
-use Rattle.std.specs.Option.{ok_or}
+use Rattle.std.proofs.Common.{◌≡◌, Some, None, Option, refl, ap, ◌∙◌, Bor}
+use Rattle.std.specs.Option.{ok_or, option_copied}
+use Rattle.std.specs.Result.{result_map_both as both}
 use Rattle.vocabulary.specs.Nodes.{BoundNode as Node}
+use Rattle.vocabulary.specs.declared.refusals.MemoryRefusal.{MemoryRefusal}
 use Rattle.vocabulary.specs.declared.refusals.MemoryRefusal.TheVariants.{NoSuchNode}
-use Rattle.arena.proofs.Numbered.{node_made, node_not_made}
+use Rattle.arena.proofs.Numbered.{node_got}
 use Rattle.arena.proofs.memory.Memory.node.Goals as goal
 
-pub returns-then-at-len : goal.returns-then-at-len
-returns-then-at-len c =
-    let xs = vec_items c.args.self.now.nodes in
-    let n = c.args.number in
-    ap Ok c.index.ensures
-    ∙ ap (λ (o : Option Node). ok_or o (NoSuchNode n)) (sym (node_made xs n c.index.result.now (omega arith)))
+copied_or : (o : Option (Bor Node)) (e : MemoryRefusal)
+    → both (λ x. x.now) (λ z. z) (ok_or o e) ≡ ok_or (option_copied o) e
+copied_or None e = refl
+copied_or (Some x) e = refl
 
-pub returns-else-at-len : goal.returns-else-at-len
-returns-else-at-len c =
-    let xs = vec_items c.args.self.now.nodes in
+pub returns : goal.returns
+returns c =
     let n = c.args.number in
-    ap (λ (o : Option Node). ok_or o (NoSuchNode n)) (sym (node_not_made xs n (omega arith)))
+    let e = NoSuchNode n in
+    ap (both (λ (x : Bor Node). x.now) (λ (z : MemoryRefusal). z)) c.ok_or.ensures.value
+    ∙ copied_or c.get.result e
+    ∙ ap (λ (o : Option Node). ok_or o e) (c.get.ensures ∙ node_got c.args.self.now.nodes.items n)
