@@ -3,6 +3,7 @@ use Rattle.std.proofs.Common.{◌≡◌, ℕ, ◌+◌, ◌≤◌, cond, List, []
 use Rattle.std.proofs.Common.{refl, arith, nat_lt, position}
 use Rattle.std.specs.List.{position_or_len}
 use lib.ListN.{length-map}
+use Rattle.vocabulary.specs.declared.values.Text.{Text}
 use Rattle.vocabulary.specs.declared.values.Value.{Value as Placed}
 use Rattle.vocabulary.specs.declared.values.Value.TheVariants as placed
 use Rattle.meaning.specs.Hosts.{Constant, Reply, plain, argument}
@@ -10,7 +11,7 @@ use Rattle.meaning.specs.HostCode.{read, read_all}
 use Rattle.hosts.specs.Numbers.{first_given, coalesce_reply, is_given}
 
 -- the first that is given, of arguments whose places are counted from i
-given_from : (arena row : List ℕ) (args : List Placed) (i : ℕ)
+given_from : (arena row : List ℕ) (args : List (Placed Text)) (i : ℕ)
     → first_given i (read_all arena row args)
     ≡ cond (nat_lt (position_or_len is_given args) (length args)) (argument (i + position_or_len is_given args))
     (plain Constant.null)
@@ -27,7 +28,7 @@ abbrev pub reply_at : Option ℕ → Reply
 reply_at None = plain Constant.null
 reply_at (Some place) = argument place
 
-pub replied : (arena row : List ℕ) (args : List Placed) (place : Option ℕ)
+pub replied : (arena row : List ℕ) (args : List (Placed Text)) (place : Option ℕ)
     → length args ≤ 8 → place ≡ position is_given args → reply_at place ≡ coalesce_reply (read_all arena row args)
 replied arena row args place few at =
     rw at (grind (arith, given_from arena row args 0, length-map args (read arena row)))

@@ -5,6 +5,7 @@ use Rattle.std.specs.List.{list_all}
 use Rattle.vocabulary.specs.declared.types.DType.{DType}
 use Rattle.vocabulary.specs.declared.types.Kind.TheVariants as kind
 use Rattle.vocabulary.specs.Types.{alike, type_of}
+use Rattle.vocabulary.specs.declared.values.Text.{Text}
 use Rattle.vocabulary.specs.declared.values.Value.{Value as Placed}
 use Rattle.meaning.specs.Outcomes.{value}
 use Rattle.meaning.specs.HostCode.{read}
@@ -64,7 +65,7 @@ abs_reply (ext e z) = fails 0
 abs_reply (whole s) = fails 0
 
 -- an argument that is not null, whatever the texts are
-abbrev pub is_given : Placed → Bool
+abbrev pub is_given : Placed Text → Bool
 is_given v = not (is_null (read [] [] v))
 
 -- the first argument that is not null, their places counted from i, or null where there is none

@@ -15,6 +15,7 @@ use vocabulary::types::{DType, Kind};
 use vocabulary::values::Value;
 
 /// The code of the length of a text.
+// Kept a number, as the next: a call names a function by its code.
 pub const LENGTH: u16 = 0;
 
 /// The code of the test whether a text begins with another.

@@ -17,6 +17,7 @@ use vocabulary::types::{DType, Kind};
 use vocabulary::values::Value;
 
 /// The code of `abs`.
+// Kept a number, as the next: a call names a function by its code.
 pub const ABS: u16 = 0;
 
 /// The code of `coalesce`.

@@ -60,4 +60,4 @@ abbrev pub answer_of : RuleAnswer → Answer
 answer_of answered.Nothing = nothing
 answer_of (answered.Child i) = child i
 answer_of (answered.Constant k) = constant (constant_of k)
-answer_of (answered.Other c p) = other c (take p.count p.places)
+answer_of (answered.Other c ps) = other c ps

@@ -2,7 +2,7 @@ ghost use Rattle.std.specs.Prelude.{◌≡◌, take};
 ghost use Rattle.meaning.specs.Hosts.{Answer};
 ghost use Rattle.meaning.specs.HostCode.{constant_of, answer_of};
 
-use crate::places::Places;
+use vocabulary::few_bytes::FewBytes;
 
 /// A value that a host can make of itself: null, or any that is no text.
 // Kept beside `Value`: one type for both, with an empty type in place of the text, is no plainer.
@@ -37,7 +37,7 @@ pub enum RuleAnswer {
     /// A literal of that value, of the call's type, replaces the call.
     Constant(Constant),
     /// A call of the function of that code, over the children at those places, replaces the call.
-    Other { code: u16, places: Places },
+    Other { code: u16, places: FewBytes<8> },
 }
 
 // Kept beside the variants: hosts of customers call these, and the contracts say what each variant means.
@@ -70,7 +70,7 @@ impl RuleAnswer {
     {
         RuleAnswer::Other {
             code,
-            places: Places::new(places),
+            places: FewBytes::new(places),
         }
     }
 }

@@ -8,5 +8,4 @@ pub mod calls;
 pub mod host;
 pub mod laws;
 pub mod no_functions;
-pub mod places;
 pub mod texts;

@@ -60,6 +60,7 @@ impl<'a> Rest<'a> {
 }
 
 /// The directive of that name.
+// Kept an `Option`: a `TryFrom` with an error type of its own is longer and says no more.
 fn read_directive(name: &[u8]) -> Option<Directive>
     ensures { result ≡ directive_named name.now }
 {

@@ -1,12 +1,13 @@
 -- Adding a column behind the others keeps a schema declared one by one.
-use Rattle.std.proofs.Common.{◌≡◌, ◌+◌, ◌-◌, ◌<◌, ◌≤◌, true, List, [], ◌∷◌, ◌++◌, length, drop, replicate, set}
-use Rattle.std.proofs.Common.{sym, refl, ap}
+use Rattle.std.proofs.Common.{◌≡◌, ℕ, ◌+◌, ◌-◌, ◌<◌, ◌≤◌, true, List, [], ◌∷◌, ◌++◌, length, take, drop, replicate}
+use Rattle.std.proofs.Common.{set, sym, refl, ap}
 use Rattle.std.proofs.Common.{◌∙◌, append_assoc, append-nil, arith}
-use Rattle.std.proofs.lemmas.List.{take_more_set, length-take-le, length-set, drop-set-lt, drop-drop, drop-replicate}
+use Rattle.std.proofs.lemmas.List.{take_all, take_more_set, length-take-le, length-set, drop-set-lt, drop-drop, drop-replicate}
 use Rattle.std.proofs.lemmas.Bool.{and_parts, and_from}
 use Rattle.std.proofs.lemmas.Bool.Decides.{nat_tests}
 use Rattle.schemas.specs.Declarations.{takes, declared, declared_after}
-use Rattle.schemas.specs.Fields.{Field}
+use Rattle.vocabulary.specs.declared.types.DType.{DType}
+use Rattle.schemas.specs.Fields.{Field, field}
 use Rattle.schemas.specs.Tables.{columns_of, unused, DeclaredOneByOne}
 use Rattle.schemas.specs.declared.tables.Schema.TheInside.{Inside}
 
@@ -28,6 +29,11 @@ declared_push fs f h k = declared_more [] fs f h k
 pub taken_fits : (fs : List Field) (f : Field)
     → takes fs f ≡ true → (length f.name ≤ 32) × (length fs < 32)
 taken_fits fs f h = grind (arith, nat_tests)
+
+-- a name that is taken is kept whole
+pub whole_name : (fs : List Field) (name : List ℕ) (t : DType) → takes fs (field name t) ≡ true
+    → field (take 32 name) t ≡ field name t
+whole_name fs name t h = ap (λ n. field n t) (take_all 32 name (taken_fits fs (field name t) h).0)
 
 -- a schema with the column f behind the others, which it takes
 pub pushed : (s : Inside) (f : Field) → DeclaredOneByOne s → takes (columns_of s) f ≡ true

@@ -2,12 +2,12 @@
 use Rattle.std.specs.Prelude.{ℕ, ◌+◌, cond, List, [], ◌∷◌, Some, None, Option}
 use Rattle.std.specs.Str.{bytes_eq}
 use Rattle.vocabulary.specs.declared.types.DType.{DType}
+use Rattle.schemas.specs.declared.column.Column.{Column}
 use Rattle.schemas.specs.declared.found.Found.{Found}
 
 -- a column: its name's bytes and its type
-pub record Field : Type 0 where
-  pub name : List ℕ
-  pub dtype : DType
+abbrev pub Field : Type 0
+Field = Column
 
 abbrev pub field : List ℕ → DType → Field
 field n t = record { name = n; dtype = t }

@@ -1,5 +1,4 @@
 pub mod AllSchemas
 pub mod Declarations
 pub mod Fields
-pub mod Headings
 pub mod Tables

@@ -11,8 +11,7 @@ impl Column {
     pub fn name(&self) -> &[u8]
         ensures { result.now ≡ self.now.name }
     {
-        let len = self.name_len as usize;
-        &self.name[0..len]
+        self.name.as_slice()
     }
 
     /// Whether it has that name, byte for byte.

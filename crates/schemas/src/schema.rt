@@ -1,11 +1,11 @@
-ghost use Rattle.std.specs.Prelude.{◌≡◌, ◌≤◌, [], length};
+ghost use Rattle.std.specs.Prelude.{◌≡◌, [], take};
 ghost use Rattle.schemas.specs.Declarations.{takes, grown};
 ghost use Rattle.schemas.specs.Fields.{field, found};
-ghost use Rattle.schemas.specs.Tables.{unused};
 
 use crate::column::Column;
 use crate::found::Found;
 use crate::tables::Schema;
+use vocabulary::few_bytes::FewBytes;
 use vocabulary::types::{DType, Kind};
 
 /// The most columns of a schema.
@@ -15,30 +15,12 @@ pub const MAX_COLUMNS: u8 = 32;
 pub const MAX_NAME: usize = 32;
 
 impl Column {
-    /// A column of that name and type.
+    /// A column of that type, and of the first 32 bytes of the name.
     pub(crate) fn new(name: &[u8], dtype: DType) -> Column
-        requires { length name.now ≤ 32 }
-        ensures { result ≡ field name.now dtype }
+        ensures { result ≡ field (take 32 name.now) dtype }
     {
-        let len = name.len();
-        let mut bytes = [0u8; MAX_NAME];
-        bytes[0..len].copy_from_slice(name);
-        Column {
-            name: bytes,
-            name_len: len as u8,
-            dtype,
-        }
-    }
-
-    /// What stands in a place that no column has.
-    fn unused() -> Column
-        ensures { result ≡ unused }
-    {
-        Column {
-            name: [0; MAX_NAME],
-            name_len: 0,
-            dtype: DType::new(Kind::Bool, false),
-        }
+        let name = FewBytes::new(name);
+        Column { name, dtype }
     }
 }
 
@@ -48,7 +30,7 @@ impl Schema {
         ensures { result ≡ [] }
     {
         Schema {
-            columns: [Column::unused(); MAX_COLUMNS as usize],
+            columns: [Column::new(b"", DType::new(Kind::Bool, false)); 32],
             count: 0,
         }
     }

@@ -4,6 +4,7 @@ use std::marker::Model;
 /// A schema: a table of columns, filled from the front.
 #[derive(Clone, Copy)]
 pub struct Schema {
+    // Kept a table and a count: declaring takes no memory from the heap, and so cannot want for it.
     pub(crate) columns: [Column; 32],
     pub(crate) count: u8,
 }

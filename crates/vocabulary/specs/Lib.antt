@@ -1,3 +1,4 @@
+pub mod FewBytes
 pub mod Layers
 pub mod Nodes
 pub mod Operators

@@ -2,6 +2,7 @@
 //! orders of a walk, refusals, the record of a node.
 #![tactic(auto)]
 
+pub mod few_bytes;
 pub mod laws;
 pub mod nodes;
 pub mod operators;

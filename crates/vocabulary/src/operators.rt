@@ -49,6 +49,7 @@ pub enum Arithmetic {
 }
 
 /// An operator, told apart by what it takes and gives.
+// Kept beside `Operator`, whose twelve names are those of the crate this is a port of.
 #[derive(Clone, Copy)]
 pub enum Family {
     Compare(CompareOperator),

@@ -20,6 +20,7 @@ pub struct Transformed<T> {
     /// How the walk is to go on.
     pub order: TraversalOrder,
     /// Whether `value` is another than the node visited.
+    // Kept a flag: the value counts in both cases, so an enum would only hold it twice.
     pub changed: bool,
 }
 

@@ -1,7 +1,18 @@
-use Rattle.std.proofs.Common.{sym}
-use Rattle.schemas.proofs.Adding.{pushed}
+use Rattle.std.proofs.Common.{sym, rules, ◌∙◌}
+use Rattle.std.proofs.lemmas.List.{take_more_set}
+use Rattle.schemas.specs.Fields.{field}
+use Rattle.schemas.proofs.Adding.{whole_name, pushed}
 use Rattle.schemas.proofs.tables.Schema.add.Goals as goal
 
 pub invariant_of-self : goal.invariant_of-self
 invariant_of-self c =
-    pushed c.self.inside c.new.result c.self.invariant (rw (c.self.view_is, c.new.ensures) (sym c.if-not-takes.ensures))
+    let taken = sym c.if-not-takes.ensures in
+    let column = c.new.ensures ∙ whole_name c.args.self.now c.args.name.now c.args.dtype taken in
+    rw column
+    (pushed c.self.inside (field c.args.name.now c.args.dtype) c.self.invariant (rw c.self.view_is taken))
+
+pub returns-clause-after : goal.returns-clause-after
+returns-clause-after c =
+    let taken = sym c.if-not-takes.ensures in
+    let column = c.new.ensures ∙ whole_name c.args.self.now c.args.name.now c.args.dtype taken in
+    rw column (search (rules, take_more_set))
