@@ -32,6 +32,7 @@ use Rattle.arena.specs.Building.{sized_as, typed_over, build_by, make_by, rebuil
 use Rattle.arena.specs.Loose.{is_filler, all_loose, loosened}
 use Rattle.arena.specs.Rebuilding.{again}
 use Rattle.arena.proofs.AsModelled.{again_head}
+use Rattle.arena.proofs.SameStores.{same_store}
 
 -- an answer and a store without its types
 abbrev loosely : Result ℕ Refusal × Store → Result ℕ Refusal × UnboundStore
@@ -105,17 +106,9 @@ fused : (xs : List Node) → map (seen 0) (map untyped xs) ≡ map as_unbound xs
 fused [] = refl
 fused (x ∷ xs) = ap (λ (ys : List Node). as_unbound x ∷ ys) (fused xs)
 
-same_store : (a b : List Node) (t : List ℕ) (r n : ℕ) → a ≡ b
-    → ◌≡◌ {A = Store} (record { schemas = []; nodes = a; text = t; records = r; bytes = n })
-    (record { schemas = []; nodes = b; text = t; records = r; bytes = n })
-same_store a b t r n e = cc
-
 against_loose : (s : Store) → s.schemas ≡ [] → Loose s → against 0 (loosened s) ≡ s
 against_loose s none e =
-    same_store (map (seen 0) (map untyped s.nodes)) s.nodes s.text s.records s.bytes
-    (fused s.nodes ∙ all_unbound s.nodes e)
-    ∙ ap (λ ss. record { schemas = ss; nodes = s.nodes; text = s.text; records = s.records; bytes = s.bytes })
-    (sym none)
+    same_store _ _ _ _ _ _ _ _ _ _ (sym none) (fused s.nodes ∙ all_unbound s.nodes e) refl refl refl
 
 entered_loose : (bs : List ℕ) (s : Store) (r : Result Node Refusal)
     → entered_unbound bs (loosened s) r ≡ loosely (entered bs s r)

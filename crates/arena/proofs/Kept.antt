@@ -11,6 +11,7 @@ use Rattle.arena.specs.Opened.{Opened, store}
 use Rattle.arena.specs.Rooms.{Limited}
 use Rattle.arena.specs.Standing.{all_stand}
 use Rattle.arena.specs.Trials.{taken_back}
+use Rattle.arena.proofs.SameStores.{same_store}
 
 -- what holds of an attempt's marks
 pub record Marked (s : Store) (nodes text : ℕ) : Type 0 where
@@ -59,12 +60,6 @@ may_cut ss h s nodes text e m =
       subst (λ (ys : List Node). all_stand text (reverse (take nodes ys)) ≡ true) (reverse-reverse h.nodes.items)
           here.before,
     )
-
-same_store : (ss rr : Schemas) (a b : List Node) (t u : List ℕ) (r q n k : ℕ)
-    → ss ≡ rr → a ≡ b → t ≡ u → r ≡ q → n ≡ k
-    → ◌≡◌ {A = Store} (record { schemas = ss; nodes = a; text = t; records = r; bytes = n })
-    (record { schemas = rr; nodes = b; text = u; records = q; bytes = k })
-same_store ss rr a b t u r q n k d e f g h = cc
 
 -- what is left of a store that has grown is the store that was
 pub taken_back_grown : (s later : Store) → Grows s later

@@ -4,8 +4,8 @@ pub mod Drafts
 pub mod Families
 pub mod FirstChildren
 pub mod Kept
-pub mod Looking
 pub mod Made
 pub mod Numbered
 pub mod Remade
+pub mod SameStores
 pub mod Stands

@@ -24,6 +24,7 @@ use Rattle.arena.specs.Opened.{store}
 use Rattle.arena.specs.Rooms.{Limited}
 use Rattle.arena.specs.Standing.{found_among, ends_within, measures, stands, all_stand}
 use Rattle.arena.proofs.Drafts.{nodes_length}
+use Rattle.arena.proofs.SameStores.{same_store}
 
 ends_more : (len more : ℕ) (o : Option Span) → ends_within len o ≡ true → ends_within (len + more) o ≡ true
 ends_more len more None h = refl
@@ -221,12 +222,6 @@ added_stand h xs len x more nodes longer new =
     ∙ and_from (stands (size + length more) (reverse old) x) (all_stand (size + length more) (reverse old)) new
     (all_stand_more size (length more) (reverse old) h.sound)
 
-same_store : (ss : Schemas) (a b : List Node) (t u : List ℕ) (r q n k : ℕ)
-    → a ≡ b → t ≡ u → r ≡ q → n ≡ k
-    → ◌≡◌ {A = Store} (record { schemas = ss; nodes = a; text = t; records = r; bytes = n })
-    (record { schemas = ss; nodes = b; text = u; records = q; bytes = k })
-same_store ss a b t u r q n k e f g h = cc
-
 -- and the store has grown by it
 pub added_grown : (ss : Schemas) (h : Held) (nodes : Limited Node) (text : Limited ℕ) (x : Node) (more : List ℕ)
     → nodes ≡ record { items = h.nodes.items ++ (x ∷ []); limit = h.nodes.limit }
@@ -241,6 +236,6 @@ pub added_grown : (ss : Schemas) (h : Held) (nodes : Limited Node) (text : Limit
     })
     (grown x more (store ss h))
 added_grown ss h nodes text x more e f =
-    same_store ss _ _ _ _ _ _ _ _
+    same_store ss ss _ _ _ _ _ _ _ _ refl
     (ap (λ (z : Limited Node). reverse z.items) e ∙ reverse-append h.nodes.items (x ∷ []))
     (ap (λ (z : Limited ℕ). z.items) f) (ap (λ (z : Limited Node). z.limit) e) (ap (λ (z : Limited ℕ). z.limit) f)

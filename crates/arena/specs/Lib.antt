@@ -1,5 +1,5 @@
+pub mod Answered
 pub mod ArenaModel
-pub mod Attempts
 pub mod Bound
 pub mod Building
 pub mod Drafting

@@ -11,7 +11,7 @@ use Rattle.model.specs.Unbound.{UnboundStore, unbound_at}
 use Rattle.model.specs.Stores.{Store, node_at}
 
 -- the answer by a record, or the refusal of a number that no node has
-abbrev pub of_record : {X : Type 0} → ℕ → Option Node → (Node → Result X Refusal) → Result X Refusal
+abbrev pub of_record : {X R : Type 0} → ℕ → Option R → (R → Result X Refusal) → Result X Refusal
 of_record k None answer = Err (Memory (NoSuchNode k))
 of_record k (Some x) answer = answer x
 
@@ -24,12 +24,6 @@ abbrev pub read_bytes : Result (Option (Bor (List ℕ))) Refusal → Result (Opt
 read_bytes (Ok o) = Ok (option_map (λ (b : Bor (List ℕ)). b.now) o)
 read_bytes (Err e) = Err e
 
--- the answer by an unbound record, or the refusal of a number that no node has
-abbrev pub of_unbound_record : {X : Type 0} → ℕ → Option UnboundNode → (UnboundNode → Result X Refusal)
-    → Result X Refusal
-of_unbound_record k None answer = Err (Memory (NoSuchNode k))
-of_unbound_record k (Some x) answer = answer x
-
 -- the answer by the record of a number among unbound nodes
 abbrev pub of_unbound : {X : Type 0} → UnboundStore → ℕ → (UnboundNode → Result X Refusal) → Result X Refusal
-of_unbound u k answer = of_unbound_record k (unbound_at u k) answer
+of_unbound u k answer = of_record k (unbound_at u k) answer

@@ -2,7 +2,7 @@ ghost use Rattle.std.specs.Prelude.{◌≡◌, length};
 ghost use Rattle.model.specs.Making.{make};
 ghost use Rattle.model.specs.Rebuilding.{with_children};
 ghost use Rattle.typing.specs.Asked.{new_of};
-ghost use Rattle.arena.specs.Attempts.{IsSameArena};
+ghost use Rattle.arena.specs.Answered.{Answered};
 ghost use Rattle.arena.specs.Trials.{taken_back};
 
 use crate::arena::Arena;
@@ -31,14 +31,10 @@ impl<'a, H: Host> Attempt<'a, H> {
 
     /// Makes a node on trial.
     pub fn try_new(&mut self, function: NewFunction<'_>, children: &[u32]) -> Result<u32, Refusal>
-        ensures answer { result ≡ (make (H.Host.meaning self.old.arena.now.host)
-            (new_of function.entry) children.now (length children.now)
-            self.old.arena.now.store).0 }
-        ensures after { self.new.arena.now.store
-            ≡ (make (H.Host.meaning self.old.arena.now.host) (new_of function.entry)
-            children.now (length children.now)
-            self.old.arena.now.store).1 }
-        ensures same { IsSameArena self.old.arena self.new.arena }
+        ensures made { Answered result self.old.arena.now self.new.arena.now
+            (make (H.Host.meaning self.old.arena.now.host) (new_of function.entry) children.now
+            (length children.now) self.old.arena.now.store) }
+        ensures same { self.new.arena.ghost_name ≡ self.old.arena.ghost_name }
         ensures nodes { self.new.nodes ≡ self.old.nodes }
         ensures text { self.new.text ≡ self.old.text }
     {
@@ -47,14 +43,10 @@ impl<'a, H: Host> Attempt<'a, H> {
 
     /// Makes a node on trial, of the function of another over other children.
     pub fn with_children(&mut self, node: u32, children: &[u32]) -> Result<u32, Refusal>
-        ensures answer { result ≡ (with_children (H.Host.meaning self.old.arena.now.host)
-            node children.now (length children.now)
-            self.old.arena.now.store).0 }
-        ensures after { self.new.arena.now.store
-            ≡ (with_children (H.Host.meaning self.old.arena.now.host) node
-            children.now (length children.now)
-            self.old.arena.now.store).1 }
-        ensures same { IsSameArena self.old.arena self.new.arena }
+        ensures rebuilt { Answered result self.old.arena.now self.new.arena.now
+            (with_children (H.Host.meaning self.old.arena.now.host) node children.now
+            (length children.now) self.old.arena.now.store) }
+        ensures same { self.new.arena.ghost_name ≡ self.old.arena.ghost_name }
         ensures nodes { self.new.nodes ≡ self.old.nodes }
         ensures text { self.new.text ≡ self.old.text }
     {
@@ -107,14 +99,10 @@ impl<'a, H: Host> Attempt<'a, H> {
 
     /// Making: what was there before stays in front.
     fn make(&mut self, function: NewFunction<'_>, children: &[u32]) -> Result<u32, Refusal>
-        ensures answer { result ≡ (make (H.Host.meaning self.old.arena.now.host)
-            (new_of function.entry) children.now (length children.now)
-            self.old.arena.now.store).0 }
-        ensures after { self.new.arena.now.store
-            ≡ (make (H.Host.meaning self.old.arena.now.host) (new_of function.entry)
-            children.now (length children.now)
-            self.old.arena.now.store).1 }
-        ensures same { IsSameArena self.old.arena self.new.arena }
+        ensures made { Answered result self.old.arena.now self.new.arena.now
+            (make (H.Host.meaning self.old.arena.now.host) (new_of function.entry) children.now
+            (length children.now) self.old.arena.now.store) }
+        ensures same { self.new.arena.ghost_name ≡ self.old.arena.ghost_name }
         ensures nodes { self.new.nodes ≡ self.old.nodes }
         ensures text { self.new.text ≡ self.old.text }
     {
@@ -123,14 +111,10 @@ impl<'a, H: Host> Attempt<'a, H> {
 
     /// Rebuilding: what was there before stays in front.
     fn rebuild(&mut self, node: u32, children: &[u32]) -> Result<u32, Refusal>
-        ensures answer { result ≡ (with_children (H.Host.meaning self.old.arena.now.host)
-            node children.now (length children.now)
-            self.old.arena.now.store).0 }
-        ensures after { self.new.arena.now.store
-            ≡ (with_children (H.Host.meaning self.old.arena.now.host) node
-            children.now (length children.now)
-            self.old.arena.now.store).1 }
-        ensures same { IsSameArena self.old.arena self.new.arena }
+        ensures rebuilt { Answered result self.old.arena.now self.new.arena.now
+            (with_children (H.Host.meaning self.old.arena.now.host) node children.now
+            (length children.now) self.old.arena.now.store) }
+        ensures same { self.new.arena.ghost_name ≡ self.old.arena.ghost_name }
         ensures nodes { self.new.nodes ≡ self.old.nodes }
         ensures text { self.new.text ≡ self.old.text }
     {

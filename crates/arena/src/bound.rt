@@ -2,6 +2,7 @@ ghost use Rattle.std.specs.Prelude.{◌≡◌, length};
 ghost use Rattle.model.specs.Making.{make};
 ghost use Rattle.model.specs.Rebuilding.{with_children};
 ghost use Rattle.typing.specs.Asked.{new_of};
+ghost use Rattle.arena.specs.Answered.{Answered};
 ghost use Rattle.arena.specs.Bound.{schema_there};
 
 use crate::arena::Arena;
@@ -14,39 +15,24 @@ use vocabulary::refusals::{MemoryRefusal, Refusal};
 impl<H: Host> Arena<H> {
     /// Makes a node over the children, and answers its number. Its text goes behind the text.
     pub fn try_new(&mut self, function: NewFunction<'_>, children: &[u32]) -> Result<u32, Refusal>
-        ensures answer { result ≡ (make (H.Host.meaning self.old.host) (new_of function.entry)
-            children.now (length children.now) self.old.store).0 }
-        ensures after { self.new.store
-            ≡ (make (H.Host.meaning self.old.host) (new_of function.entry) children.now (length children.now)
-            self.old.store).1 }
-        ensures schemas { self.new.store.schemas ≡ self.old.store.schemas }
-        ensures host { self.new.host ≡ self.old.host }
+        ensures { Answered result self.old self.new (make (H.Host.meaning self.old.host)
+            (new_of function.entry) children.now (length children.now) self.old.store) }
     {
         self.make(function, children)
     }
 
     /// Makes a node of the same function, on the same text, over the children. A Root over none is itself.
     pub fn with_children(&mut self, node: u32, children: &[u32]) -> Result<u32, Refusal>
-        ensures answer { result ≡ (with_children (H.Host.meaning self.old.host) node children.now (length children.now)
-            self.old.store).0 }
-        ensures after { self.new.store
-            ≡ (with_children (H.Host.meaning self.old.host) node children.now (length children.now)
-            self.old.store).1 }
-        ensures schemas { self.new.store.schemas ≡ self.old.store.schemas }
-        ensures host { self.new.host ≡ self.old.host }
+        ensures { Answered result self.old self.new (with_children (H.Host.meaning self.old.host)
+            node children.now (length children.now) self.old.store) }
     {
         self.rebuild(node, children)
     }
 
     /// Making, by the binder as the typist.
     fn make(&mut self, function: NewFunction<'_>, children: &[u32]) -> Result<u32, Refusal>
-        ensures answer { result ≡ (make (H.Host.meaning self.old.host) (new_of function.entry)
-            children.now (length children.now) self.old.store).0 }
-        ensures after { self.new.store
-            ≡ (make (H.Host.meaning self.old.host) (new_of function.entry) children.now (length children.now)
-            self.old.store).1 }
-        ensures schemas { self.new.store.schemas ≡ self.old.store.schemas }
-        ensures host { self.new.host ≡ self.old.host }
+        ensures { Answered result self.old self.new (make (H.Host.meaning self.old.host)
+            (new_of function.entry) children.now (length children.now) self.old.store) }
     {
         check_schema(&function)?;
         self.memory.make(&self.binder, NEW_NODE, function, children)
@@ -54,13 +40,8 @@ impl<H: Host> Arena<H> {
 
     /// Rebuilding, by the binder as the typist.
     fn rebuild(&mut self, node: u32, children: &[u32]) -> Result<u32, Refusal>
-        ensures answer { result ≡ (with_children (H.Host.meaning self.old.host) node children.now (length children.now)
-            self.old.store).0 }
-        ensures after { self.new.store
-            ≡ (with_children (H.Host.meaning self.old.host) node children.now (length children.now)
-            self.old.store).1 }
-        ensures schemas { self.new.store.schemas ≡ self.old.store.schemas }
-        ensures host { self.new.host ≡ self.old.host }
+        ensures { Answered result self.old self.new (with_children (H.Host.meaning self.old.host)
+            node children.now (length children.now) self.old.store) }
     {
         self.memory.rebuild(&self.binder, node, children)
     }

@@ -17,7 +17,7 @@ returns g c =
     in
     let (stored, schemas, host) = same_opened (opened c.self.inside) c.args.self.now c.self.view_is in
     record {
-      answer = c.make.ensures.answer ss ∙ ap (λ (z : Result ℕ Refusal × Store). z.0) made;
+      answers = c.make.ensures.answer ss ∙ ap (λ (z : Result ℕ Refusal × Store). z.0) made;
       after = c.make.ensures.after ss ∙ ap (λ (z : Result ℕ Refusal × Store). z.1) made;
       schemas = schemas;
       host = host;

@@ -15,7 +15,7 @@ returns g c =
     in
     let (stored, schemas, host) = same_opened (opened c.self.inside) c.args.self.now c.self.view_is in
     record {
-      answer = c.rebuild.ensures.answer ss ∙ ap (λ (z : Result ℕ Refusal × Store). z.0) anew;
+      answers = c.rebuild.ensures.answer ss ∙ ap (λ (z : Result ℕ Refusal × Store). z.0) anew;
       after = c.rebuild.ensures.after ss ∙ ap (λ (z : Result ℕ Refusal × Store). z.1) anew;
       schemas = schemas;
       host = host;

@@ -7,8 +7,7 @@ use Rattle.model.specs.Making.{entered}
 use Rattle.model.specs.Stores.{Store, node_at}
 use Rattle.arena.specs.Opened.{store}
 use Rattle.arena.proofs.Drafts.{nodes_length}
-use Rattle.arena.proofs.Looking.{there}
-use Rattle.arena.proofs.Remade.{made_anew, remade_is, remade_fits}
+use Rattle.arena.proofs.Remade.{there, made_anew, remade_is, remade_fits}
 use Rattle.arena.proofs.memory.Memory.rebuild.Goals as goal
 
 pub enter-requires : goal.enter-requires
