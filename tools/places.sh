@@ -33,7 +33,7 @@ echo "2-names   $(grep -ohE '\bfn [a-z_0-9]+' $sources | sort | uniq -d | wc -l)
 [ -z "$list" ] || grep -ohE '\bfn [a-z_0-9]+' $sources | sort | uniq -c | awk '$1 > 1' | sed 's/^/    /'
 echo "2-types   $(grep -hE '^(pub |pub\(crate\) )?(struct|enum)' $sources | sed 's/[<({ ]*$//' | sort | uniq -d | wc -l)"
 count 2-all '^(pub |pub\(crate\) )?(struct|enum) '
-count 3-loops '\bfor \w+ in |\bfor \(.*\) in |\bwhile |\bloop \{'
+count 3-loops '\bfor [^ ]+ in |\bfor \(.*\) in |\bwhile |\bloop \{'
 count 3-counts 'number \+ 1|place \+ 1|number\.saturating_add\(1\)'
 count 4-impls '^impl.*\b(From|TryFrom|Display|PartialEq|Ord)\b'
 count 4-names 'fn (same_|equal|to_|read_|without_|placed|[a-z]+_function\(|untyped)'

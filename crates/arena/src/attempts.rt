@@ -11,6 +11,8 @@ use meaning::host::Host;
 use typing::asking::NewFunction;
 use vocabulary::refusals::Refusal;
 
+// The private functions do the work of the public ones, so that these are proved by the check alone and a bug in one of
+// them is refused at its own lines.
 impl<'a, H: Host> Attempt<'a, H> {
     /// Nodes are made on trial from here.
     pub fn begin(arena: &'a mut Arena<H>) -> Attempt<'a, H>

@@ -12,6 +12,8 @@ use typing::asking::NewFunction;
 use vocabulary::nodes::NEW_NODE;
 use vocabulary::refusals::{MemoryRefusal, Refusal};
 
+// The private functions do the work of the public ones, so that these are proved by the check alone and a bug in one of
+// them is refused at its own lines.
 impl<H: Host> Arena<H> {
     /// Makes a node over the children, and answers its number. Its text goes behind the text.
     pub fn try_new(&mut self, function: NewFunction<'_>, children: &[u32]) -> Result<u32, Refusal>

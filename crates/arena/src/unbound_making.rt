@@ -11,6 +11,8 @@ use typing::untyped::Untyped;
 use vocabulary::nodes::NEW_NODE;
 use vocabulary::refusals::Refusal;
 
+// The private functions do the work of the public ones, so that these are proved by the check alone and a bug in one of
+// them is refused at its own lines.
 impl UnboundArena {
     /// An arena without nodes, in that memory.
     pub fn open(mut memory: Memory) -> UnboundArena

@@ -14,6 +14,8 @@ use crate::unbound::UnboundArena;
 use vocabulary::nodes::{Node, UnboundNode};
 use vocabulary::refusals::{BindingRefusal, MemoryRefusal, Refusal};
 
+// The arena of bound trees has the same readers: what they do stands once, in `Node` and in `Memory`, and a trait over
+// both would have to say each contract a third time.
 impl UnboundArena {
     /// The record of a node.
     pub fn record(&self, node: u32) -> Result<UnboundNode, Refusal>

@@ -44,6 +44,6 @@ impl Schema {
         ensures few { length self.now ≤ 32 }
     {
         let columns = &self.columns[..];
-        &columns[..self.count as usize]
+        &columns[..usize::from(self.count)]
     }
 }

@@ -66,7 +66,7 @@ impl Schema {
         if !self.takes(name, dtype) {
             return false;
         }
-        self.columns[self.count as usize] = Column::new(name, dtype);
+        self.columns[usize::from(self.count)] = Column::new(name, dtype);
         self.count += 1;
         true
     }

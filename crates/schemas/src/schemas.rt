@@ -17,7 +17,7 @@ fn index_of(schema: u8) -> Result<usize, MemoryRefusal>
     ensures { result ≡ numbered schema }
 {
     if schema < SCHEMAS {
-        Ok(schema as usize)
+        Ok(usize::from(schema))
     } else {
         Err(MemoryRefusal::NoSuchSchema(schema))
     }

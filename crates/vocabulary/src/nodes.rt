@@ -76,7 +76,7 @@ impl<T: Copy> Node<T> {
         ensures { result ≡ child_at self.now position }
     {
         if position < self.child_count && position < MAX_CHILDREN {
-            Some(self.children[position as usize])
+            Some(self.children[usize::from(position)])
         } else {
             None
         }

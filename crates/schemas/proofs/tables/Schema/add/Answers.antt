@@ -8,7 +8,7 @@ pub invariant_of-self : goal.invariant_of-self
 invariant_of-self c =
     let taken = sym c.if-not-takes.ensures in
     let column = c.new.ensures ∙ whole_name c.args.self.now c.args.name.now c.args.dtype taken in
-    rw column
+    rw (c.from.ensures, column)
     (pushed c.self.inside (field c.args.name.now c.args.dtype) c.self.invariant (rw c.self.view_is taken))
 
 pub returns-clause-after : goal.returns-clause-after
