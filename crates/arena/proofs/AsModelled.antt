@@ -111,7 +111,8 @@ makes_new m w cs n s there = makes_bound m 65535 w cs n s ∙ first w there
 
     first : (v : New) → Ok tt ≡ schema_there v → make_at m 65535 v cs n s ≡ make m v cs n s
     first (root q) h =
-        ap (λ (b : Bool). entered [] s (cond b (build m (plan_at 65535 (root q) cs n s) s) (Err (Memory (NoSuchSchema q)))))
+        ap (λ (b : Bool).
+        entered [] s (cond b (build m (plan_at 65535 (root q) cs n s) s) (Err (Memory (NoSuchSchema q)))))
         (sym (root_first q (ltb q 8) refl h))
     first (literal t v) h = refl
     first (get_item name) h = refl

@@ -7,7 +7,8 @@ ghost use Rattle.arena.specs.Trials.{taken_back};
 use crate::memory::Memory;
 
 impl Memory {
-    /// Lets go of all but the first `nodes` records, which stand in the first `text` bytes, and of the rest of the text.
+    /// Lets go of all but the first `nodes` records, which stand in the first `text` bytes, and of the text behind
+    /// these.
     pub(crate) fn cut(&mut self, nodes: usize, text: usize)
         requires within { text ≤ length self.old.text.items }
         requires standing { all_stand text (reverse (take nodes self.old.nodes.items)) ≡ true }

@@ -1,4 +1,5 @@
-ghost use Rattle.std.specs.Prelude.{◌≡◌, ◌+◌, ◌-◌, ◌<◌, ◌≤◌, [], ◌∷◌, ◌++◌, length, take, nat_le, slice_get, MatchResult};
+ghost use Rattle.std.specs.Prelude.{◌≡◌, ◌+◌, ◌-◌, ◌<◌, ◌≤◌, [], ◌∷◌, ◌++◌, length, take};
+ghost use Rattle.std.specs.Prelude.{nat_le, slice_get, MatchResult};
 ghost use Rattle.std.specs.Option.{option_copied};
 ghost use Rattle.vocabulary.specs.declared.refusals.MemoryRefusal.TheVariants.{NoHeap};
 
@@ -6,8 +7,7 @@ use std::alloc::Global;
 use std::marker::Model;
 use vocabulary::refusals::MemoryRefusal;
 
-/// Items up to a limit. All of the room is taken from the heap when it is reserved, so that no later call can want for
-/// it.
+/// Items up to a limit. All of the room is taken from the heap when it is reserved: no later call can want for it.
 #[derive(Drop)]
 pub struct Room<T> {
     items: Vec<T>,
