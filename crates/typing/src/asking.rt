@@ -6,6 +6,8 @@ use vocabulary::values::Value;
 pub type NewLiteral<'a> = Value<&'a [u8]>;
 
 /// The function of a node that is asked for, a name by its bytes.
+// Kept beside the record's `Function`: three of the seven cases hold other things, and one type for both would have a
+// parameter for each.
 #[derive(Clone, Copy)]
 pub enum NewFunction<'a> {
     /// The row of a schema, by its number.
