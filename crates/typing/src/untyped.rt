@@ -6,6 +6,7 @@ use vocabulary::refusals::BindingRefusal;
 use vocabulary::types::{DType, Kind};
 
 /// The typist of unbound trees: it looks at counts alone, and writes down the same type for all, which nothing reads.
+// Kept: a memory of records without types would be no plainer, since the model reads unbound nodes in this way too.
 #[derive(Clone, Copy)]
 pub struct Untyped;
 
