@@ -1,4 +1,3 @@
 pub mod Adding
-pub mod Lookup
 pub mod Names
 pub mod TableReads

@@ -1,19 +1,16 @@
 -- Reading and writing one schema of the table.
-use Rattle.std.proofs.Common.{◌≡◌, ℕ, ◌<◌, true, false, List, [], ◌∷◌, ◌++◌, length, get_or, set, Ok, Err}
-use Rattle.std.proofs.Common.{Result, ap, ◌∙◌, arith}
-use Rattle.std.proofs.lemmas.List.{set-get_or, get_or_default}
+use Rattle.std.proofs.Common.{◌≡◌, ℕ, zero, suc, ◌<◌, true, false, List, [], ◌∷◌, ◌++◌, length, get_or, set, Ok, Err}
+use Rattle.std.proofs.Common.{Result, refl, ap, ◌∙◌, arith}
+use Rattle.std.proofs.lemmas.List.{get_or_default}
+use Rattle.std.proofs.lemmas.Bool.{and_parts, and_from}
 use Rattle.std.proofs.lemmas.Bool.Decides.{nat_tests}
+use Rattle.std.specs.List.{list_all}
 use Rattle.vocabulary.specs.declared.refusals.Refusal.{Refusal}
 use Rattle.schemas.specs.AllSchemas.{numbered, in_schema, placed}
-use Rattle.schemas.specs.Declarations.{takes}
+use Rattle.schemas.specs.Declarations.{takes, declared}
 use Rattle.vocabulary.specs.declared.refusals.Refusal.TheVariants.{Binding}
 use Rattle.vocabulary.specs.declared.refusals.BindingRefusal.TheVariants.{BadColumn}
 use Rattle.schemas.specs.Fields.{Field}
-
--- a schema written back as it was changes none
-pub same_fields : (ss : List (List Field)) (s : ℕ) (d t : List Field) → s < length ss
-    → t ≡ get_or ss s d → set ss s t ≡ ss
-same_fields ss s d t h e = ap (set ss s) e ∙ set-get_or ss s d
 
 -- a schema written back with one column more has it behind the others
 pub more_fields : (ss : List (List Field)) (s : ℕ) (d t : List Field) (f : Field) → s < length ss
@@ -43,3 +40,21 @@ placed_refused s n f fs e counted free why = rw (why, counted, ← free)
 pub placed_granted : (s n : ℕ) (f : Field) (fs : List Field)
     → n ≡ length fs → true ≡ takes fs f → Ok n ≡ placed s f fs
 placed_granted s n f fs counted taken = rw (counted, ← taken)
+
+-- of schemas that were all declared, each was
+pub each_declared : (ss : List (List Field)) (s : ℕ) (d : List Field)
+    → list_all declared ss ≡ true → s < length ss → declared (get_or ss s d) ≡ true
+each_declared [] s d h l = absurd (omega arith)
+each_declared (fs ∷ ss) zero d h l = (and_parts (declared fs) (list_all declared ss) h).0
+each_declared (fs ∷ ss) (suc s) d h l =
+    each_declared ss s d (and_parts (declared fs) (list_all declared ss) h).1 (omega arith)
+
+-- with one of them written anew, they are still all declared
+pub still_declared : (ss : List (List Field)) (s : ℕ) (t : List Field)
+    → list_all declared ss ≡ true → declared t ≡ true → list_all declared (set ss s t) ≡ true
+still_declared [] s t h k = refl
+still_declared (fs ∷ ss) zero t h k =
+    and_from (declared t) (list_all declared ss) k (and_parts (declared fs) (list_all declared ss) h).1
+still_declared (fs ∷ ss) (suc s) t h k =
+    let p = and_parts (declared fs) (list_all declared ss) h in
+    and_from (declared fs) (list_all declared (set ss s t)) p.0 (still_declared ss s t p.1 k)

@@ -1,5 +1,5 @@
 -- Which columns a schema takes.
-use Rattle.std.specs.Prelude.{◌≡◌, ℕ, ◌<◌, ◌≤◌, Bool, true, cond, not, ◌&&◌, List, [], ◌∷◌, ◌++◌, length, get_or}
+use Rattle.std.specs.Prelude.{◌≡◌, ℕ, ◌<◌, ◌≤◌, Bool, true, not, ◌&&◌, List, [], ◌∷◌, ◌++◌, length, get_or}
 use Rattle.std.specs.Prelude.{is_some, Some, nat_le, nat_lt}
 use Rattle.vocabulary.specs.Types.{is_plain}
 use Rattle.schemas.specs.Fields.{Field, found}
@@ -12,10 +12,6 @@ good_name n = nat_le 1 (length n) && nat_le (length n) 32
 abbrev pub takes : List Field → Field → Bool
 takes fs f =
     good_name f.name && (is_plain f.dtype && (nat_lt (length fs) 32 && not (is_some (found f.name fs))))
-
--- the columns with one more behind them, where it is taken
-abbrev pub grown : Bool → List Field → Field → List Field
-grown taken fs f = cond taken (fs ++ (f ∷ [])) fs
 
 -- each column is taken by those before it
 abbrev pub declared_after : List Field → List Field → Bool

@@ -9,7 +9,8 @@ use vocabulary::types::DType;
 impl Column {
     /// Its name's bytes.
     pub fn name(&self) -> &[u8]
-        ensures { result.now ≡ self.now.name }
+        ensures held { result.now ≡ self.now.name }
+        ensures short { length self.now.name ≤ 32 }
     {
         self.name.as_slice()
     }

@@ -1,5 +1,5 @@
-ghost use Rattle.std.specs.Prelude.{◌≡◌, [], take};
-ghost use Rattle.schemas.specs.Declarations.{takes, grown};
+ghost use Rattle.std.specs.Prelude.{◌≡◌, true, [], ◌∷◌, ◌++◌, take};
+ghost use Rattle.schemas.specs.Declarations.{takes};
 ghost use Rattle.schemas.specs.Fields.{field, found};
 
 use crate::column::Column;
@@ -58,16 +58,12 @@ impl Schema {
         named && dtype.is_plain() && self.count < MAX_COLUMNS && self.find(name).is_none()
     }
 
-    /// One column more, behind the others. It is false, and nothing changes, where the column is not taken.
-    pub(crate) fn add(&mut self, name: &[u8], dtype: DType) -> bool
-        ensures answer { result ≡ takes self.old (field name.now dtype) }
-        ensures after { self.new ≡ grown result self.old (field name.now dtype) }
+    /// One column more, behind the others, which the schema takes.
+    pub(crate) fn push(&mut self, name: &[u8], dtype: DType)
+        requires { takes self.old (field name.now dtype) ≡ true }
+        ensures { self.new ≡ self.old ++ (field name.now dtype ∷ []) }
     {
-        if !self.takes(name, dtype) {
-            return false;
-        }
         self.columns[usize::from(self.count)] = Column::new(name, dtype);
         self.count += 1;
-        true
     }
 }

@@ -1,7 +1,9 @@
-ghost use Rattle.std.specs.Prelude.{◌≡◌, length, Ok};
+ghost use Rattle.std.specs.Prelude.{◌≡◌, true, length, Ok};
+ghost use Rattle.std.specs.List.{list_all};
 ghost use Rattle.std.specs.Result.{result_map_both};
 ghost use Rattle.vocabulary.specs.declared.refusals.Refusal.TheVariants.{Memory};
 ghost use Rattle.schemas.specs.AllSchemas.{numbered, in_schema, sought, added, after};
+ghost use Rattle.schemas.specs.Declarations.{declared};
 ghost use Rattle.schemas.specs.Fields.{field};
 
 use crate::found::Found;
@@ -24,28 +26,21 @@ fn index_of(schema: u8) -> Result<usize, MemoryRefusal>
 }
 
 impl Schemas {
-    /// The schema of that number, or the refusal of the number.
-    fn at(&self, schema: u8) -> Result<&Schema, MemoryRefusal>
-        ensures { result_map_both (λ s. s.now) Memory result
+    /// The schema of that number.
+    #[tactic(auto, using(crate::proofs::TableReads::answered))]
+    pub fn schema(&self, schema: u8) -> Result<&Schema, Refusal>
+        ensures { result_map_both (λ s. s.now) (λ e. e) result
             ≡ in_schema schema Ok self.now }
     {
         let at = index_of(schema)?;
         Ok(&self.table[at])
     }
 
-    /// The schema of that number.
-    pub fn schema(&self, schema: u8) -> Result<&Schema, Refusal>
-        ensures { result_map_both (λ s. s.now) (λ e. e) result
-            ≡ in_schema schema Ok self.now }
-    {
-        let found = self.at(schema)?;
-        Ok(found)
-    }
-
     /// The table of all schemas.
     fn all(&self) -> &[Schema]
         ensures counted { length result.now ≡ length self.now }
         ensures eight { length result.now ≡ 8 }
+        ensures declared { list_all declared self.now ≡ true }
     {
         &self.table[..]
     }
@@ -54,6 +49,7 @@ impl Schemas {
     pub fn len(&self) -> usize
         ensures value { result ≡ length self.now }
         ensures eight { result ≡ 8 }
+        ensures declared { list_all declared self.now ≡ true }
     {
         self.all().len()
     }
@@ -62,8 +58,7 @@ impl Schemas {
     pub fn find(&self, schema: u8, name: &[u8]) -> Result<Option<Found>, Refusal>
         ensures { result ≡ sought schema name.now self.now }
     {
-        let found = self.at(schema)?;
-        Ok(found.find(name))
+        Ok(self.schema(schema)?.find(name))
     }
 
     /// Adds a column behind the others of its schema, and answers its place.
@@ -75,9 +70,10 @@ impl Schemas {
         let at = index_of(schema)?;
         let target = &mut self.table[at];
         let column = target.len();
-        if !target.add(name, dtype) {
+        if !target.takes(name, dtype) {
             return Err(BindingRefusal::BadColumn { schema, column }.into());
         }
+        target.push(name, dtype);
         Ok(column)
     }
 }

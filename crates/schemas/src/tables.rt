@@ -33,12 +33,16 @@ pub struct Schemas {
 }
 
 impl Model for Schemas {
-    ghost use Rattle.std.specs.Prelude.{List};
+    ghost use Rattle.std.specs.Prelude.{◌≡◌, true, List};
+    ghost use Rattle.std.specs.List.{list_all};
+    ghost use Rattle.schemas.specs.Declarations.{declared};
     ghost use Rattle.schemas.specs.Fields.{Field};
 
     ghost Value = { List (List Field) };
 
     ghost view = { λ a. a.table };
+
+    ghost invariant = { λ a. list_all declared a.table ≡ true };
 
     ghost inverse = { λ fss. record { table = fss } };
 }

@@ -1,8 +1,9 @@
-ghost use Rattle.std.specs.Prelude.{◌≡◌, take};
+ghost use Rattle.std.specs.Prelude.{◌≡◌, ◌≤◌, length, take};
 
 use std::marker::Model;
 
-/// At most `N` bytes, in memory of their own. They stand in front, with zeros behind them.
+/// At most `N` bytes, in memory of their own.
+// An array and a length: memory is fixed, and the vectors without a heap that there are cannot be copied.
 #[derive(Clone, Copy)]
 pub struct FewBytes<const N: usize> {
     bytes: [u8; N],
@@ -37,7 +38,8 @@ impl<const N: usize> FewBytes<N> {
 
     /// The bytes.
     pub fn as_slice(&self) -> &[u8]
-        ensures { result.now ≡ self.now }
+        ensures held { result.now ≡ self.now }
+        ensures few { length self.now ≤ N }
     {
         let bytes = &self.bytes[..];
         &bytes[..self.len]

@@ -3,11 +3,13 @@ ghost use Rattle.vocabulary.specs.Orders.{InvertingNegates, SwappingExchangesSid
 ghost use Rattle.vocabulary.specs.Types.{AlikeIsOneKind};
 
 /// Types are alike just where their kinds are equal.
+#[tactic(auto, using(crate::proofs::Alike::alike_is_one_kind))]
 pub fn alike_is_one_kind()
     ensures { AlikeIsOneKind }
 {}
 
 /// A refusal's number tells its layer, and there are refusals of all numbers from 1 to 18.
+#[tactic(auto, using(crate::proofs::Numbers::numbers_tell_layers))]
 pub fn numbers_tell_layers()
     ensures { NumbersTellLayers }
 {}

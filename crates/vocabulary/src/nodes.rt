@@ -9,6 +9,7 @@ use crate::values::*;
 pub const MAX_CHILDREN: u8 = 8;
 
 /// The number that stands for a new node in a refusal: no node is made with it.
+// A number and no `Option`: refusals promise and print it.
 pub const NEW_NODE: u32 = 65_535;
 
 /// What a node computes of its children.

@@ -56,16 +56,16 @@ impl<T: Copy> Value<T> {
 
 impl<T> Value<T> {
     /// The value with another text in place of its own, if it has one.
-    pub fn map<U, F: FnOnce(T) -> U>(self, other: F) -> Value<U>
-        requires { IfText self (F.pre other) }
-        ensures { WithText (F.post other) self result }
+    pub fn map<U, F: FnOnce(T) -> U>(self, f: F) -> Value<U>
+        requires { IfText self (F.pre f) }
+        ensures { WithText (F.post f) self result }
     {
         match self {
             Value::Null => Value::Null,
             Value::Bool(b) => Value::Bool(b),
             Value::I64(x) => Value::I64(x),
             Value::U64(x) => Value::U64(x),
-            Value::Utf8(text) => Value::Utf8(other(text)),
+            Value::Utf8(text) => Value::Utf8(f(text)),
             Value::Extension(e, x) => Value::Extension(e, x),
         }
     }
