@@ -52,7 +52,8 @@ no_digits n (d ∷ ds) h l = absurd (omega (arith, h))
 
 -- a fold of a closure that puts one more digit behind a number
 module _ {F : Type 0} (g : Mut F (ℕ × (Bor ℕ × Unit {0})) (Option ℕ)) (f : F)
-    (k : (n : ℕ) (x : Bor ℕ) (r : Option ℕ) (q : F) → Called g f (n, (x, tt)) r q → (q ≡ f) × (r ≡ one_more n x.now)) where
+    (k : (n : ℕ) (x : Bor ℕ) (r : Option ℕ) (q : F) → Called g f (n, (x, tt)) r q
+    → (q ≡ f) × (r ≡ one_more n x.now)) where
   abbrev Turn : F × ℕ → Bor ℕ → F × ℕ → Type 0
   Turn p x q = (v : Option ℕ) × Called g p.0 (p.1, (x, tt)) v q.0 × (v ≡ Some q.1)
 
@@ -67,8 +68,10 @@ module _ {F : Type 0} (g : Mut F (ℕ × (Bor ℕ × Unit {0})) (Option ℕ)) (f
       let none = sym (k n x v h c).1 ∙ e in
       m ∙ sym (stopped (is_ascii_digit d) _ (n * 10 + (d - 48)) u.rest.now refl none) ∙ ap (natural_from n) (sym y)
 
-  pub folded : (E : Type 0) (n : ℕ) (xs : List (Bor ℕ)) (s u : Iter ℕ) (o : Option (Bor ℕ)) (q : F) (a : ℕ) (r : Option ℕ) → n < 2 ^ 64
-      → YieldsThen fronts s xs o u → FoldsTo {P = F × ℕ} Turn (f, n) xs (q, a) → MatchOption o (r ≡ Some a) (Ended E q a r)
+  pub folded : (E : Type 0) (n : ℕ) (xs : List (Bor ℕ)) (s u : Iter ℕ) (o : Option (Bor ℕ)) (q : F) (a : ℕ)
+      (r : Option ℕ) → n < 2 ^ 64
+      → YieldsThen fronts s xs o u → FoldsTo {P = F × ℕ} Turn (f, n) xs (q, a)
+      → MatchOption o (r ≡ Some a) (Ended E q a r)
       → r ≡ natural_from n s.rest.now
   folded E n [] s u o q a r l (t, same, y) p m =
       ended E n s u o r l (subst (λ i. fronts i o u) (sym same) y)
@@ -77,7 +80,8 @@ module _ {F : Type 0} (g : Mut F (ℕ × (Bor ℕ × Unit {0})) (Option ℕ)) (f
       let d = x.now in
       let (keeps, made) = k n x v i.0 c in
       let (small, step) = taken (is_ascii_digit d) _ (n * 10 + (d - 48)) i.1 j.rest.now refl (sym made ∙ e) in
-      folded E i.1 xs j u o q a r small (t, ys, last) (subst (λ h. FoldsTo {P = F × ℕ} Turn (h, i.1) xs (q, a)) keeps p) m
+      folded E i.1 xs j u o q a r small (t, ys, last)
+      (subst (λ h. FoldsTo {P = F × ℕ} Turn (h, i.1) xs (q, a)) keeps p) m
       ∙ sym step
       ∙ ap (natural_from n) (sym y)
 

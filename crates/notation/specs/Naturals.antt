@@ -15,7 +15,8 @@ one_more n d = cond (is_ascii_digit d && nat_lt (n * 10 + (d - 48)) (2 ^ 64)) (S
 
 -- digits alone, and a number of 64 bits
 abbrev pub natural_from : ℕ → List ℕ → Option ℕ
-natural_from before ds = cond (all_ascii_digits ds && nat_lt (value_from before ds) (2 ^ 64)) (Some (value_from before ds)) None
+natural_from before ds =
+    cond (all_ascii_digits ds && nat_lt (value_from before ds) (2 ^ 64)) (Some (value_from before ds)) None
 
 -- one digit at least
 abbrev pub natural : List ℕ → Option ℕ

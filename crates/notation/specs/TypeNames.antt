@@ -30,7 +30,8 @@ byte_named digits = of_part (λ n. cond (nat_lt n 256) (Some n) None) (natural d
 
 -- the number between the word and a closing bracket, as in Extension(3)
 abbrev pub number_after : List ℕ → List ℕ → Option ℕ
-number_after beginning name = of_part byte_named (of_part (without_ending (codes ")")) (without_beginning beginning name))
+number_after beginning name =
+    of_part byte_named (of_part (without_ending (codes ")")) (without_beginning beginning name))
 
 -- the first answer, or else the second
 abbrev pub or_else : {A : Type 0} → Option A → Option A → Option A
@@ -40,7 +41,9 @@ or_else (Some x) other = Some x
 -- an Extension or a Row, by its number
 abbrev pub numbered_kind : List ℕ → Option Kind
 numbered_kind name =
-    or_else (option_map Extension (number_after (codes "Extension(") name)) (option_map Row (number_after (codes "Row(") name))
+    or_else
+    (option_map Extension (number_after (codes "Extension(") name))
+    (option_map Row (number_after (codes "Row(") name))
 
 abbrev pub kind_named : List ℕ → Option Kind
 kind_named name =

@@ -2,6 +2,7 @@ use thiserror::Error;
 use vocabulary::types::DType;
 
 /// What a line says.
+// No `Option` of a column, and a directive of its own: lines of a filter and of frames are to come.
 #[derive(Clone, Copy)]
 pub enum Line<'a> {
     /// Nothing, or a remark.

@@ -29,9 +29,11 @@ impl<'a> Rest<'a> {
     fn next_word(self, missing: Complaint) -> Result<(&'a [u8], Rest<'a>), Mistake>
         ensures word { MatchResult result
             (λ r. (length self.entry.bytes.now ≢ 0) × (r.0.now ≡ word self.entry.bytes.now))
-            (λ e. (length self.entry.bytes.now ≡ 0) × (e ≡ mistaken self.entry.line.now self.entry.bytes.now missing)) }
+            (λ e. (length self.entry.bytes.now ≡ 0)
+            × (e ≡ mistaken self.entry.line.now self.entry.bytes.now missing)) }
         ensures rest { MatchResult result
-            (λ r. (r.1.line.now ≡ self.entry.line.now) × (r.1.bytes.now ≡ after_blanks (after_word self.entry.bytes.now)))
+            (λ r. (r.1.line.now ≡ self.entry.line.now)
+            × (r.1.bytes.now ≡ after_blanks (after_word self.entry.bytes.now)))
             (λ e. length self.entry.bytes.now ≡ 0) }
     {
         if self.bytes.is_empty() {

@@ -59,7 +59,8 @@ new_name fs f h = none_since (found f.name fs) (grind (arith, nat_tests))
 -- the column at i of those behind `before` is found at its place
 each_found : (before fs : List Field) → declared_after before fs ≡ true
     → (i : ℕ) (d : Field) → i < length fs
-    → found (get_or fs i d).name (before ++ fs) ≡ Some (record { place = length before + i; dtype = (get_or fs i d).dtype })
+    → found (get_or fs i d).name (before ++ fs)
+    ≡ Some (record { place = length before + i; dtype = (get_or fs i d).dtype })
 each_found before [] h i d l = absurd (omega arith)
 each_found before (f ∷ fs) h zero d l =
     let p = and_parts (takes before f) (declared_after (before ++ (f ∷ [])) fs) h in

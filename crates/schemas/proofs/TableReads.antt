@@ -23,7 +23,8 @@ pub numbered_ok : (s at : ℕ) → Ok at ≡ numbered s → (at ≡ s) × (s < 8
 numbered_ok s at e = grind (arith, nat_tests)
 
 -- what the eight schemas answer, from the one that a number leads to
-pub answered : {A : Type 0} (s at : ℕ) (answer : List Field → Result A Refusal) (ss : List (List Field)) (d : List Field)
+pub answered : {A : Type 0} (s at : ℕ) (answer : List Field → Result A Refusal)
+    (ss : List (List Field)) (d : List Field)
     → Ok at ≡ numbered s → length ss ≡ 8
     → answer (get_or ss at d) ≡ in_schema s answer ss
 answered s at answer ss d e l =

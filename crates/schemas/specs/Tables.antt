@@ -29,4 +29,5 @@ pub record DeclaredOneByOne (s : Inside) : Type 0 where
 -- so a table holds nothing but its columns
 pub restored : (s : Inside) → DeclaredOneByOne s → table_of (columns_of s) ≡ s
 restored s h =
-    rw (length-take-le s.count s.columns (omega (arith, h.whole, h.few)), ← h.behind, take-append-drop s.count s.columns) refl
+    let counted = length-take-le s.count s.columns (omega (arith, h.whole, h.few)) in
+    rw (counted, ← h.behind, take-append-drop s.count s.columns) refl

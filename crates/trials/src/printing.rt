@@ -1,18 +1,14 @@
 use std::alloc::{AllocError, Global};
+use std::fmt::Display;
 use std::test::Fail;
 use vocabulary::refusals::{
     BindingRefusal, EvaluationRefusal, MemoryRefusal, Refusal, RulesRefusal, WalkRefusal,
 };
 use vocabulary::types::{DType, Kind};
 
-/// Whether the refusal is printed in those words.
-fn is_printed(alloc: Global, refusal: Refusal, words: &str) -> Result<bool, AllocError> {
-    Ok(refusal.to_string(alloc)?.as_str() == words)
-}
-
-/// Whether the type is printed as that name.
-fn is_named(alloc: Global, dtype: DType, name: &str) -> Result<bool, AllocError> {
-    Ok(dtype.to_string(alloc)?.as_str() == name)
+/// Whether it is printed in those words.
+fn is_printed<T: Display + Drop>(alloc: Global, item: T, words: &str) -> Result<bool, AllocError> {
+    Ok(item.to_string(alloc)?.as_str() == words)
 }
 
 #[test]
@@ -112,7 +108,10 @@ fn refusals_are_printed_in_words(rt: HostRuntime) -> Result<(), Fail> {
         ),
     ];
     for (refusal, words) in cases {
-        assert!(rt; is_printed(rt.alloc(), refusal, words)?, "{words}");
+        assert!(rt;
+            is_printed::<Refusal>(rt.alloc(), refusal, words)?,
+            "{words}"
+        );
     }
     Ok(())
 }
@@ -129,7 +128,7 @@ fn types_are_printed_by_their_names(rt: HostRuntime) -> Result<(), Fail> {
     ];
     for (kind, nullable, name) in cases {
         assert!(rt;
-            is_named(rt.alloc(), DType::new(kind, nullable), name)?,
+            is_printed(rt.alloc(), DType::new(kind, nullable), name)?,
             "{name}"
         );
     }

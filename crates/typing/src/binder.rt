@@ -103,7 +103,8 @@ fn item_type(schemas: &Schemas, name: &[u8], row: Kind) -> Option<DType>
 fn column_type(schemas: &Schemas, schema: u8, name: &[u8]) -> Option<DType>
     ensures { result ≡ column_type schemas.now schema name.now }
 {
-    // Kept: the look-up refuses these too, but only this test tells the proof how many schemas there are.
+    // Kept: the look-up refuses these too, but without this test, where `len` says that there are eight, the proof does
+    // not close.
     if usize::from(schema) >= schemas.len() {
         return None;
     }

@@ -47,7 +47,8 @@ negated (Some b) = Some (not b)
 -- a swapped comparison holds of the operands exchanged, whatever they are; what is swapped swaps back
 abbrev pub SwappingExchangesSides : Type 0
 SwappingExchangesSides =
-    (o p : Operator) → swapped o ≡ Some p → ((x : Ordering) → holds p x ≡ holds o (ordering_reverse x)) × (swapped p ≡ Some o)
+    (o p : Operator) → swapped o ≡ Some p
+    → ((x : Ordering) → holds p x ≡ holds o (ordering_reverse x)) × (swapped p ≡ Some o)
 
 -- comparisons alone have an inverse, which holds just where they do not; what is inverted inverts back
 abbrev pub InvertingNegates : Type 0

@@ -16,7 +16,8 @@ returns-then-not-takes c =
       answer =
           placed_refused schema c.len-column.result column _ c.into.result
           c.len-column.ensures c.if-not-takes.ensures c.into.ensures
-          ∙ answered schema c.in_ok-at.at (placed schema column) table c.index-self-at.result c.in_ok-at.ensures (omega arith)
+          ∙ answered schema c.in_ok-at.at (placed schema column) table c.index-self-at.result
+          c.in_ok-at.ensures (omega arith)
           ∙ ap (added schema column) c.self.view_is;
       after = set-get_or table c.in_ok-at.at c.index-self-at.result ∙ c.self.view_is;
     }
