@@ -7,7 +7,7 @@ use Rattle.meaning.specs.Hosts.{argument, fails}
 use Rattle.meaning.proofs.CaseSplits.{none_some}
 
 pub fails_argument : {B : Type 0} (c i : ℕ) → fails c ≡ argument i → B
-fails_argument c i p = let z : ◌≡◌ {A = ℕ} 0 1 = cc in absurd (omega arith)
+fails_argument c i p = absurd (grind arith)
 
 -- what is there under a test has passed it
 pub cond_some : {A : Type 0} (c : Bool) (x : Option A) (a : A) → cond c x None ≡ Some a → (c ≡ true) × (x ≡ Some a)

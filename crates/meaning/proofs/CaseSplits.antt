@@ -1,9 +1,11 @@
 -- Taking options, outcomes and operand lists apart.
-use Rattle.std.proofs.Common.{◌≡◌, ℕ, true, false, ◌⊎◌, List, [], ◌∷◌, Some, None, Option, sym, refl, ap}
+use Rattle.std.proofs.Common.{◌≡◌, true, false, ◌⊎◌, List, [], ◌∷◌, Some, None, Option, sym, refl, ap}
 use Rattle.std.proofs.Common.{inl, inr, arith}
 use Rattle.std.specs.Option.{option_map, option_or}
 -- an answer under a test passed the test
 pub use Rattle.std.proofs.lemmas.Option.{cond_some}
+use Rattle.std.proofs.lemmas.Bool.{false≢true}
+use Rattle.std.proofs.lemmas.Option.{none-some}
 use Rattle.vocabulary.specs.declared.operators.Connective.{Connective}
 use Rattle.meaning.specs.Kleene.{kleene}
 use Rattle.meaning.specs.Lists.{of_none, of_one, of_two, of_three}
@@ -12,17 +14,17 @@ use Rattle.meaning.specs.Values.{Value}
 
 -- None is no answer
 pub none_some {ℓ} : {A : Type 0} {B : Type ℓ} (a : A) → ◌≡◌ {A = Option A} None (Some a) → B
-none_some a p = let z : ◌≡◌ {A = ℕ} 0 1 = cc in absurd (omega arith)
+none_some a p = absurd (none-some a p)
 
 pub some_none : {A : Type 0} {B : Type 0} (a : A) → ◌≡◌ {A = Option A} (Some a) None → B
 some_none a p = none_some a (sym p)
 
 -- a fault is no value
 pub fault_value : {A : Type 0} {B : Type 0} (x : Fault) (a : A) → ◌≡◌ {A = Outcome A} (fault x) (value a) → B
-fault_value x a p = let z : ◌≡◌ {A = ℕ} 0 1 = cc in absurd (omega arith)
+fault_value x a p = absurd (grind arith)
 
 pub false_true : {B : Type 0} → false ≡ true → B
-false_true p = let z : ◌≡◌ {A = ℕ} 0 1 = cc in absurd (omega arith)
+false_true p = absurd (false≢true p)
 
 -- what a constructor holds is one where the results are
 pub some_same : {A : Type 0} {a b : A} → Some a ≡ Some b → a ≡ b

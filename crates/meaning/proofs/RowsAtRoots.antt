@@ -39,13 +39,13 @@ typed_nil m ss (cons e es) p =
     let (t, a, p1) = and_then_some (typed m ss e) _ [] p in
     let (ts, b, p2) = and_then_some (typed_all m ss es) _ [] p1 in
     let i = some_same p2 in
-    let z : ◌≡◌ {A = ℕ} 0 1 = cc in absurd (omega arith)
+    absurd (grind arith)
 
 -- children of some types are a first child and others
 pub typed_cons : (m : Meaning) (ss : Schemas) (es : Exprs) (t : DType) (ts : List DType)
     → typed_all m ss es ≡ Some (t ∷ ts)
     → (e : Expr) × (ds : Exprs) × (es ≡ cons e ds) × (typed m ss e ≡ Some t) × (typed_all m ss ds ≡ Some ts)
-typed_cons m ss nil t ts p = let z : ◌≡◌ {A = ℕ} 0 1 = cc in absurd (omega arith)
+typed_cons m ss nil t ts p = absurd (grind arith)
 typed_cons m ss (cons e es) t ts p =
     let (u, a, p1) = and_then_some (typed m ss e) _ (t ∷ ts) p in
     let (us, b, p2) = and_then_some (typed_all m ss es) _ (t ∷ ts) p1 in

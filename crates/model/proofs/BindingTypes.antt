@@ -100,19 +100,19 @@ tree_none m ss u fine q n j (under {k = k} x a w h) e =
 module _ (m : Meaning) (u : UnboundStore) (fine : SoundUnbound u) (s : Store) (n q work k : ℕ) where
   of_types : (r : Refusal) → r ≡ Binding (DoesNotBind k) → RefusedBinding m u n q work s r
       → typed m s.schemas (tree_for q u n) ≡ None
-  of_types r e (no_node l) = let z : ◌≡◌ {A = ℕ} 0 1 = cc in absurd (omega arith)
-  of_types r e (no_schema l h) = let z : ◌≡◌ {A = ℕ} 0 1 = cc in absurd (omega arith)
-  of_types r e (work_short l h w) = let z : ◌≡◌ {A = ℕ} 0 1 = cc in absurd (omega arith)
+  of_types r e (no_node l) = absurd (grind arith)
+  of_types r e (no_schema l h) = absurd (grind arith)
+  of_types r e (work_short l h w) = absurd (grind arith)
   of_types r e (at_node l h w j x stands found (Cause.no_code c)) =
-      let z : ◌≡◌ {A = ℕ} 0 1 = cc in absurd (omega arith)
+      absurd (grind arith)
   of_types r e (at_node l h w j x stands found (Cause.wrong_count c)) =
-      let z : ◌≡◌ {A = ℕ} 0 1 = cc in absurd (omega arith)
+      absurd (grind arith)
   of_types r e (at_node l h w j x stands found (Cause.unbindable c)) =
       tree_none m s.schemas u fine q n j stands c
   of_types r e (at_node l h w j x stands found (Cause.records_full c)) =
-      let z : ◌≡◌ {A = ℕ} 0 1 = cc in absurd (omega arith)
+      absurd (grind arith)
   of_types r e (at_node l h w j x stands found (Cause.text_full later g c)) =
-      let z : ◌≡◌ {A = ℕ} 0 1 = cc in absurd (omega arith)
+      absurd (grind arith)
 
 pub types_refuse_no_tree_that_binds : TypesRefuseNoTreeThatBinds
 types_refuse_no_tree_that_binds m u fine s sound n q work k e =
