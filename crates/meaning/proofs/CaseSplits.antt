@@ -2,10 +2,8 @@
 use Rattle.std.proofs.Common.{◌≡◌, true, false, ◌⊎◌, List, [], ◌∷◌, Some, None, Option, sym, refl, ap}
 use Rattle.std.proofs.Common.{inl, inr, arith}
 use Rattle.std.specs.Option.{option_map, option_or}
--- an answer under a test passed the test
-pub use Rattle.std.proofs.lemmas.Option.{cond_some}
 use Rattle.std.proofs.lemmas.Bool.{false≢true}
-use Rattle.std.proofs.lemmas.Option.{none-some}
+use Rattle.std.proofs.lemmas.Option.{none-some, same_Some}
 use Rattle.vocabulary.specs.declared.operators.Connective.{Connective}
 use Rattle.meaning.specs.Kleene.{kleene}
 use Rattle.meaning.specs.Lists.{of_none, of_one, of_two, of_three}
@@ -26,10 +24,7 @@ fault_value x a p = absurd (grind arith)
 pub false_true : {B : Type 0} → false ≡ true → B
 false_true p = absurd (false≢true p)
 
--- what a constructor holds is one where the results are
-pub some_same : {A : Type 0} {a b : A} → Some a ≡ Some b → a ≡ b
-some_same p = cc
-
+-- what an outcome holds is one where the outcomes are
 pub value_same : {A : Type 0} {a b : A} → value a ≡ value b → a ≡ b
 value_same p = cc
 
@@ -56,7 +51,7 @@ and_then_refused (Some a) f h = inr (a, refl, h)
 pub mapped_some : {A B : Type 0} (f : A → B) (x : Option A) (b : B) → option_map f x ≡ Some b
     → (a : A) × (x ≡ Some a) × (f a ≡ b)
 mapped_some f None b p = none_some b p
-mapped_some f (Some a) b p = (a, refl, some_same p)
+mapped_some f (Some a) b p = (a, refl, same_Some _ _ p)
 
 pub mapped_none : {A B : Type 0} (f : A → B) (x : Option A) → option_map f x ≡ None → x ≡ None
 mapped_none f None p = refl
@@ -79,7 +74,7 @@ then_value (value a) f b p = (a, refl, p)
 then_value (fault x) f b p = fault_value x b p
 
 pub settled_some : {A : Type 0} (x : Outcome A) (a : A) → settled x ≡ Some a → x ≡ value a
-settled_some (value b) a p = ap value (some_same p)
+settled_some (value b) a p = ap value (same_Some _ _ p)
 settled_some (fault x) a p = none_some a p
 
 -- going on, faults left out
@@ -127,7 +122,7 @@ three_values (fault v) y z f = refl
 module _ {A B : Type 0} where
   -- an operand list that is taken has as many operands as are asked for
   pub of_none_is : (x : B) (xs : List A) (b : B) → of_none None (Some x) xs ≡ Some b → (xs ≡ []) × (x ≡ b)
-  of_none_is x [] b p = (refl, some_same p)
+  of_none_is x [] b p = (refl, same_Some _ _ p)
   of_none_is x (a ∷ xs) b p = none_some b p
 
   pub of_none_some : (y : Option B) (xs : List A) (b : B) → of_none None y xs ≡ Some b → (xs ≡ []) × (y ≡ Some b)

@@ -3,6 +3,7 @@ use Rattle.std.proofs.Common.{◌≡◌, ℕ, suc, ◌+◌, ◌<◌, ◌≤◌, 
 use Rattle.std.proofs.Common.{◌++◌, length, Some, None, Ok, Err, Option, Result, sym, refl, ap, subst, append-nil}
 use Rattle.std.proofs.Common.{arith, length-append}
 use Rattle.std.proofs.lemmas.Bool.{leb-true, ltb-true, and_parts}
+use Rattle.std.proofs.lemmas.Option.{same_Some, cond_some}
 use Rattle.vocabulary.specs.declared.nodes.Function.{Function}
 use Rattle.vocabulary.specs.declared.nodes.Function.TheVariants.{Root, Literal, GetItem, Cast, Binary, Between, Host}
 use Rattle.vocabulary.specs.Nodes.{BoundNode as Node}
@@ -20,7 +21,7 @@ use Rattle.meaning.specs.Trees.{Fn}
 use Rattle.meaning.specs.Typing.{fn_type}
 use Rattle.meaning.specs.Values.{Value, null, bool, signed, unsigned, text, ext, whole, fits}
 use Rattle.meaning.specs.Comparing.{value_bytes}
-use Rattle.meaning.proofs.CaseSplits.{none_some, some_same, cond_some, false_true}
+use Rattle.meaning.proofs.CaseSplits.{none_some, false_true}
 use Rattle.model.specs.Stores.{Store}
 use Rattle.model.specs.Shapes.{over, head_of}
 use Rattle.model.specs.Wanted.{New, root, literal, get_item, cast, binary, between, host}
@@ -113,7 +114,7 @@ root_typed : (m : Meaning) (ss : Schemas) (r : ℕ) (ts : List DType) (t : DType
 unfolding fn_type
 root_typed m ss r ts t e =
     let h = none_some_of (Some (record { kind = kind.Row r; nullable = false })) ts t e in
-    ap (λ (z : DType). carried z.kind) (sym (some_same h))
+    ap (λ (z : DType). carried z.kind) (sym (same_Some _ _ h))
 
 row_typed : (m : Meaning) (ss : Schemas) (u : DType) (r : ℕ) (ts : List DType) (t : DType)
     → fn_type m ss (Fn.literal u (whole r)) ts ≡ Some t → false ≡ true
