@@ -10,7 +10,7 @@ use Rattle.meaning.specs.Lists.{of_none, of_one, of_two, of_three}
 use Rattle.meaning.specs.Outcomes.{Fault, Outcome, value, fault, then, settled, and_then}
 use Rattle.meaning.specs.Values.{Value}
 
--- None is no answer
+-- None is no answer: the library's, of any goal
 pub none_some {ℓ} : {A : Type 0} {B : Type ℓ} (a : A) → ◌≡◌ {A = Option A} None (Some a) → B
 none_some a p = absurd (none-some a p)
 
@@ -21,6 +21,7 @@ some_none a p = none_some a (sym p)
 pub fault_value : {A : Type 0} {B : Type 0} (x : Fault) (a : A) → ◌≡◌ {A = Outcome A} (fault x) (value a) → B
 fault_value x a p = absurd (grind arith)
 
+-- the library's, of any goal
 pub false_true : {B : Type 0} → false ≡ true → B
 false_true p = absurd (false≢true p)
 

@@ -105,3 +105,5 @@ results_are_exact = (signed_ones, unsigned_ones)
       cond-true (ltb a b) (fault arithmetic) (unsigned_result (a - b)),
       λ h. rw (cond-false (ltb a b) (fault arithmetic) (unsigned_result (a - b)) h) (exact _ _),
     )
+
+pub ruleset arithmetic_is_exact = (quotients_drop_the_fraction, zero_divisors_fault, results_are_exact)

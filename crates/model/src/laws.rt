@@ -1,4 +1,5 @@
 //! The laws of making, rebuilding and binding, and of unbound trees.
+// A law names its lemma on its function, where the check closes it with that alone; the others have an answer.
 ghost use Rattle.model.specs.LawsOfMaking.{EmptyIsSound, StepsKeepSound, StepsOnlyAdd, NodesStay};
 ghost use Rattle.model.specs.LawsOfMaking.{TreesByShapes, RecordsLieForward, RefusalsChangeNothing};
 ghost use Rattle.model.specs.LawsOfMaking.{MadeAsAsked, RebuiltOverOthers};
@@ -77,7 +78,7 @@ pub fn one_node_for_each_place()
 {}
 
 /// A refused binding leaves the store as it was, and has its cause at a node of the tree, which it names.
-#[tactic(auto, using(crate::proofs::BindingCauses::refused_bindings_change_nothing, crate::proofs::BindingCauses::binding_refuses_for_causes, crate::proofs::BindingTypes::types_refuse_no_tree_that_binds))]
+#[tactic(auto, using(crate::proofs::BindingTypes::binding_refuses))]
 pub fn binding_refuses_for_causes()
     ensures leaves { RefusedBindingsChangeNothing }
     ensures causes { BindingRefusesForCauses }

