@@ -4,6 +4,7 @@ use Rattle.std.proofs.Common.{◌∷◌, map, length, Some, None, Ok, Err, Optio
 use lib.ListN.{length-map}
 use Rattle.std.proofs.lemmas.Bool.{and_parts, and_from, eqb-true}
 use Rattle.std.specs.Option.{option_map}
+use Rattle.std.proofs.lemmas.Option.{same_Some}
 use Rattle.vocabulary.specs.declared.nodes.Function.{Function}
 use Rattle.vocabulary.specs.declared.nodes.Function.TheVariants.{Root, Literal, GetItem, Cast, Binary, Between, Host}
 use Rattle.vocabulary.specs.Nodes.{BoundNode as Node}
@@ -15,7 +16,7 @@ use Rattle.vocabulary.specs.declared.types.Kind.{Kind}
 use Rattle.vocabulary.specs.declared.types.Kind.TheVariants as kind
 use Rattle.vocabulary.specs.Nodes.{UnboundNode, untyped}
 use Rattle.model.specs.Unbound.{UnboundStore, rows, seen, against}
-use Rattle.meaning.proofs.CaseSplits.{none_some, some_same, false_true}
+use Rattle.meaning.proofs.CaseSplits.{none_some, false_true}
 use Rattle.model.specs.BindingTrees.{plan_at}
 use Rattle.model.specs.Making.{Plan, named, looked_up, check, sized, types_of, entered, head_counts, new_record}
 use Rattle.model.specs.Making.{deepest, total_size}
@@ -184,7 +185,7 @@ found_loose (y ∷ ys) k x h e = go (found_loose ys k x parts.1) (eqb k (length 
 
     go : (node_among ys k ≡ Some x → as_unbound x ≡ x)
         → (b : Bool) → cond b (Some y) (node_among ys k) ≡ Some x → as_unbound x ≡ x
-    go f true i = ap as_unbound (sym (some_same i)) ∙ unbound_is y parts.0 ∙ some_same i
+    go f true i = ap as_unbound (sym (same_Some _ _ i)) ∙ unbound_is y parts.0 ∙ same_Some _ _ i
     go f false i = f i
 
 itself_loose : (k : ℕ) (f : Function) (n : ℕ) (s : Store) (anew : Result ℕ Refusal × Store)

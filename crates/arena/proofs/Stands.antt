@@ -5,13 +5,14 @@ use Rattle.std.proofs.Common.{sym, refl, ap, ◌∙◌, subst, arith, take, drop
 use Rattle.std.proofs.Common.{length-take}
 use Rattle.std.proofs.lemmas.List.{reverse-append, take_at, length-take-le}
 use Rattle.std.proofs.lemmas.Bool.{and_parts, and_from, leb-true, ltb-true, le-leb, eq-eqb, eqb-true}
+use Rattle.std.proofs.lemmas.Option.{same_Some}
 use Rattle.vocabulary.specs.Nodes.{BoundNode as Node}
 use Rattle.vocabulary.specs.declared.refusals.BindingRefusal.{BindingRefusal}
 use Rattle.vocabulary.specs.declared.types.DType.{DType}
 use Rattle.vocabulary.specs.declared.values.Span.{Span}
 use Rattle.vocabulary.specs.Nodes.{padded, text_of}
 use Rattle.meaning.specs.Columns.{Schemas}
-use Rattle.meaning.proofs.CaseSplits.{none_some, some_same}
+use Rattle.meaning.proofs.CaseSplits.{none_some}
 use Rattle.model.specs.Making.{Plan, named, looked_up, with_record, types_of, deepest, total_size, new_record}
 use Rattle.model.specs.Shapes.{kids}
 use Rattle.model.specs.Soundness.{EndsWithin}
@@ -92,7 +93,7 @@ lies len (y ∷ ys) k x h e = go (lies len ys k x parts.1) (eqb k (length ys)) r
     go : (node_among ys k ≡ Some x → Lies len ys k x)
         → (b : Bool) → eqb k (length ys) ≡ b → cond b (Some y) (node_among ys k) ≡ Some x → Lies len (y ∷ ys) k x
     go rest true i f =
-        let same = some_same f in
+        let same = same_Some _ _ f in
         record {
           newer = [];
           older = ys;

@@ -13,8 +13,8 @@ use Rattle.hosts.specs.declared.labels.LabelFunction.{LabelFunction}
 use Rattle.hosts.specs.declared.labels.LabelFunction.TheVariants.{Length, StartsWith}
 use Rattle.hosts.specs.Labels.{labels, label_function, labels_takes, labels_types, labels_gives}
 use Rattle.hosts.specs.Labels.{length_type, starts_type, length_reply, starts_reply}
-use Rattle.hosts.specs.Tools.{cond_some}
-use Rattle.std.proofs.lemmas.Option.{cond_some as some_under}
+use Rattle.hosts.specs.Tools.{under_test}
+use Rattle.std.proofs.lemmas.Option.{cond_some}
 use Rattle.meaning.proofs.CaseSplits.{none_some, of_one_some, of_two_some}
 use Rattle.meaning.proofs.FitsTypes.{fit_one, fit_two}
 
@@ -35,15 +35,15 @@ typed f ts =
 length_typed : (ts : List DType) (t : DType) → typed (Some Length) ts ≡ Some t
     → (u : DType) × (ts ≡ u ∷ []) × (type_of kind.U64 u.nullable ≡ t)
 length_typed ts t p =
-    let (u, e, g) = of_one_some length_type ts t (cond_some _ _ _ p).1 in
-    (u, e, (some_under _ _ _ g).1)
+    let (u, e, g) = of_one_some length_type ts t (under_test _ _ _ p).1 in
+    (u, e, (cond_some _ _ _ g).1)
 
 -- a type of the test is that of two arguments
 starts_typed : (ts : List DType) (t : DType) → typed (Some StartsWith) ts ≡ Some t
     → (s u : DType) × (ts ≡ s ∷ u ∷ []) × (type_of kind.Bool (s.nullable || u.nullable) ≡ t)
 starts_typed ts t p =
-    let (s, u, e, g) = of_two_some starts_type ts t (cond_some _ _ _ p).1 in
-    (s, u, e, (some_under _ _ _ g).1)
+    let (s, u, e, g) = of_two_some starts_type ts t (under_test _ _ _ p).1 in
+    (s, u, e, (cond_some _ _ _ g).1)
 
 labels_fit : (f : Option LabelFunction) (ts : List DType) (t : DType) (vs : List Value) (v : Value)
     → typed f ts ≡ Some t → all_fit vs ts ≡ true → reply_value vs (labels_gives f vs) ≡ value v → fits v t ≡ true

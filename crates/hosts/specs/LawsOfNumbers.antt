@@ -18,8 +18,8 @@ use Rattle.hosts.specs.declared.numbers.NumberFunction.TheVariants.{Abs, Coalesc
 use Rattle.hosts.specs.Numbers.{numbers, number_function, numbers_takes, numbers_types, numbers_gives, numbers_rule}
 use Rattle.hosts.specs.Numbers.{abs_type, abs_reply, all_alike, all_nullable, coalesce_type}
 use Rattle.hosts.specs.Numbers.{first_given, coalesced, CoalesceIsTheFirst}
-use Rattle.hosts.specs.Tools.{fails_argument, cond_some, plain_type}
-use Rattle.std.proofs.lemmas.Option.{cond_some as some_under}
+use Rattle.hosts.specs.Tools.{fails_argument, plain_type, under_test}
+use Rattle.std.proofs.lemmas.Option.{cond_some}
 use Rattle.meaning.proofs.CaseSplits.{none_some, fault_value, value_same, of_one_some}
 use Rattle.meaning.proofs.FitsTypes.{fit_nil, fit_cons, fit_one, null_fits, one_kind}
 
@@ -93,14 +93,15 @@ abs_fits w ws u v p h = grind arith
 -- the type of a call, by its function
 abbrev typed : Option NumberFunction → List DType → Option DType
 typed f ts =
-    cond (is_some f && (numbers_takes f (length ts) && (nat_le (length ts) 8 && all_plain ts))) (numbers_types f ts) None
+    cond (is_some f && (numbers_takes f (length ts) && (nat_le (length ts) 8 && all_plain ts)))
+    (numbers_types f ts) None
 
 -- a type of abs is that of one argument
 abs_typed : (ts : List DType) (t : DType) → typed (Some Abs) ts ≡ Some t
     → (u : DType) × (ts ≡ u ∷ []) × (type_of kind.I64 u.nullable ≡ t)
 abs_typed ts t p =
-    let (u, e, g) = of_one_some abs_type ts t (cond_some _ _ _ p).1 in
-    (u, e, (some_under _ _ _ g).1)
+    let (u, e, g) = of_one_some abs_type ts t (under_test _ _ _ p).1 in
+    (u, e, (cond_some _ _ _ g).1)
 
 third_holds : (a b c d : Bool) → (a && (b && (c && d))) ≡ true → c ≡ true
 third_holds a b c d p = grind arith
@@ -110,8 +111,8 @@ coalesce_typed : (s : DType) (ts : List DType) (t : DType) → typed (Some Coale
     → (all_alike s ts ≡ true) × (plain_kind s.kind ≡ true)
     × (record { kind = s.kind; nullable = all_nullable (s ∷ ts) } ≡ t)
 coalesce_typed s ts t p =
-    let (b, g) = cond_some _ (coalesce_type (s ∷ ts)) t p in
-    let (l, i) = some_under _ _ _ g in
+    let (b, g) = under_test _ (coalesce_type (s ∷ ts)) t p in
+    let (l, i) = cond_some _ _ _ g in
     let k =
     third_holds (numbers_takes (Some Coalesce) (length (s ∷ ts))) (nat_le (length (s ∷ ts)) 8) (plain_kind s.kind)
     (all_plain ts) b

@@ -2,14 +2,16 @@ ghost use Rattle.std.specs.Prelude.{◌≡◌, None};
 ghost use Rattle.meaning.specs.Lists.{of_one};
 ghost use Rattle.hosts.specs.Kinds.{kind_to_kind};
 
+use thiserror::Error;
 use vocabulary::types::{DType, Kind};
 
 /// The fault of a call that does not bind: of another code, another count or other kinds.
-// Kept a number, as all faults of these hosts: `Reply` has a code, and an enum here would only be turned into it.
+// Kept a number, as `NO_POSITIVE` of the numbers: `Reply` has a code, and an enum would only be turned into it.
 pub(crate) const DOES_NOT_BIND: u16 = 0;
 
 /// A code that no function of the host has.
-#[derive(Clone, Copy, Debug, PartialEq, Eq)]
+#[derive(Clone, Copy, Debug, PartialEq, Eq, Error)]
+#[error("no function of the host has this code")]
 pub struct UnknownCode;
 
 /// The type of a function of one argument, of the kind `taken`: of the kind `given`, nullable where its argument

@@ -1,9 +1,10 @@
-ghost use Rattle.std.specs.Prelude.{◌≡◌, None};
+ghost use Rattle.std.specs.Prelude.{◌≡◌, Some, None};
 ghost use Rattle.std.specs.Result.{result_ok};
 ghost use Rattle.meaning.specs.Lists.{of_one, of_two};
 ghost use Rattle.meaning.specs.Hosts.{fails};
 ghost use Rattle.meaning.specs.HostCode.{read_all, reply_of};
-ghost use Rattle.hosts.specs.Labels.{label_function, labels, starts_type, length_reply};
+ghost use Rattle.hosts.specs.Labels.{label_function, labels, labels_takes, labels_types, labels_gives};
+ghost use Rattle.hosts.specs.Labels.{starts_type, length_reply};
 ghost use Rattle.hosts.specs.Labels.{begins, BeginsIsAFront, starts_reply};
 ghost use Rattle.hosts.specs.LawsOfLabels.{labels_lawful, labels_names};
 
@@ -44,6 +45,39 @@ impl TryFrom<u16> for LabelFunction {
     }
 }
 
+impl LabelFunction {
+    /// Whether it takes so many arguments.
+    fn takes(self, count: u8) -> bool
+        ensures { result ≡ labels_takes (Some self) count }
+    {
+        match self {
+            LabelFunction::Length => count == 1,
+            LabelFunction::StartsWith => count == 2,
+        }
+    }
+
+    /// Its type over those types.
+    fn type_of(self, types: &[DType]) -> Option<DType>
+        ensures { result ≡ labels_types (Some self) types.now }
+    {
+        match self {
+            LabelFunction::Length => type_of_one(types, Kind::Utf8, Kind::U64),
+            LabelFunction::StartsWith => starts_type(types),
+        }
+    }
+
+    /// What it replies to those arguments.
+    fn value_of(self, args: &[Value], texts: Texts) -> Reply
+        ensures { reply_of result ≡ labels_gives (Some self)
+            (read_all texts.entry.arena.now texts.entry.row.now args.now) }
+    {
+        match self {
+            LabelFunction::Length => length(args, texts),
+            LabelFunction::StartsWith => starts_with(args, texts),
+        }
+    }
+}
+
 /// Two functions: the length of one Utf8 in bytes, and whether a first Utf8 begins with a second.
 #[derive(Clone, Copy)]
 pub struct Labels;
@@ -60,25 +94,16 @@ impl Host for Labels {
     }
 
     fn takes(&self, code: u16, count: u8) -> bool {
-        match LabelFunction::try_from(code) {
-            Ok(LabelFunction::Length) => count == 1,
-            Ok(LabelFunction::StartsWith) => count == 2,
-            Err(UnknownCode) => false,
-        }
+        LabelFunction::try_from(code).is_ok_and(|function| function.takes(count))
     }
 
     fn type_of(&self, code: u16, types: &[DType]) -> Option<DType> {
-        match LabelFunction::try_from(code) {
-            Ok(LabelFunction::Length) => type_of_one(types, Kind::Utf8, Kind::U64),
-            Ok(LabelFunction::StartsWith) => starts_type(types),
-            Err(UnknownCode) => None,
-        }
+        LabelFunction::try_from(code).ok()?.type_of(types)
     }
 
     fn value_of(&self, code: u16, args: &[Value], texts: Texts) -> Reply {
         match LabelFunction::try_from(code) {
-            Ok(LabelFunction::Length) => length(args, texts),
-            Ok(LabelFunction::StartsWith) => starts_with(args, texts),
+            Ok(function) => function.value_of(args, texts),
             Err(UnknownCode) => Reply::Fails(DOES_NOT_BIND),
         }
     }

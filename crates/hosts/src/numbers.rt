@@ -1,9 +1,10 @@
-ghost use Rattle.std.specs.Prelude.{◌≡◌, ℕ, ◌<◌, List, length, position, IfSome};
+ghost use Rattle.std.specs.Prelude.{◌≡◌, ℕ, ◌<◌, List, length, position, IfSome, Some};
 ghost use Rattle.std.specs.Result.{result_ok};
 ghost use Rattle.meaning.specs.Lists.{of_one};
 ghost use Rattle.meaning.specs.Hosts.{fails};
 ghost use Rattle.meaning.specs.HostCode.{read_all, reply_of, answer_of};
-ghost use Rattle.hosts.specs.Numbers.{number_function, numbers, abs_number, abs_reply};
+ghost use Rattle.hosts.specs.Numbers.{number_function, numbers, numbers_takes, numbers_types, numbers_gives};
+ghost use Rattle.hosts.specs.Numbers.{numbers_rule, abs_number, abs_reply};
 ghost use Rattle.hosts.specs.Numbers.{all_alike, all_nullable, coalesce_type, coalesce_rule};
 ghost use Rattle.hosts.specs.Numbers.{is_given, coalesce_reply, CoalesceIsTheFirst};
 ghost use Rattle.hosts.specs.LawsOfNumbers.{numbers_lawful, numbers_names};
@@ -49,6 +50,48 @@ impl TryFrom<u16> for NumberFunction {
     }
 }
 
+impl NumberFunction {
+    /// Whether it takes so many arguments.
+    fn takes(self, count: u8) -> bool
+        ensures { result ≡ numbers_takes (Some self) count }
+    {
+        match self {
+            NumberFunction::Abs => count == 1,
+            NumberFunction::Coalesce => (2..=MAX_CHILDREN).contains(&count),
+        }
+    }
+
+    /// Its type over those types.
+    fn type_of(self, types: &[DType]) -> Option<DType>
+        ensures { result ≡ numbers_types (Some self) types.now }
+    {
+        match self {
+            NumberFunction::Abs => type_of_one(types, Kind::I64, Kind::I64),
+            NumberFunction::Coalesce => coalesce_type(types),
+        }
+    }
+
+    /// What it replies to those arguments, whatever the texts are.
+    fn value_of(self, args: &[Value]) -> Reply
+        ensures { (arena row : List ℕ) → reply_of result ≡ numbers_gives (Some self) (read_all arena row args.now) }
+    {
+        match self {
+            NumberFunction::Abs => abs(args),
+            NumberFunction::Coalesce => coalesce(args),
+        }
+    }
+
+    /// What a call of it over those types is rewritten to.
+    fn rule(self, types: &[DType]) -> RuleAnswer
+        ensures { answer_of result ≡ numbers_rule (Some self) types.now }
+    {
+        match self {
+            NumberFunction::Abs => RuleAnswer::nothing(),
+            NumberFunction::Coalesce => coalesce_rule(types),
+        }
+    }
+}
+
 /// Two functions: `abs` of one I64, and `coalesce` of two to eight arguments of alike types.
 #[derive(Clone, Copy)]
 pub struct Numbers;
@@ -65,25 +108,16 @@ impl Host for Numbers {
     }
 
     fn takes(&self, code: u16, count: u8) -> bool {
-        match NumberFunction::try_from(code) {
-            Ok(NumberFunction::Abs) => count == 1,
-            Ok(NumberFunction::Coalesce) => (2..=MAX_CHILDREN).contains(&count),
-            Err(UnknownCode) => false,
-        }
+        NumberFunction::try_from(code).is_ok_and(|function| function.takes(count))
     }
 
     fn type_of(&self, code: u16, types: &[DType]) -> Option<DType> {
-        match NumberFunction::try_from(code) {
-            Ok(NumberFunction::Abs) => type_of_one(types, Kind::I64, Kind::I64),
-            Ok(NumberFunction::Coalesce) => coalesce_type(types),
-            Err(UnknownCode) => None,
-        }
+        NumberFunction::try_from(code).ok()?.type_of(types)
     }
 
     fn value_of(&self, code: u16, args: &[Value], _texts: Texts) -> Reply {
         match NumberFunction::try_from(code) {
-            Ok(NumberFunction::Abs) => abs(args),
-            Ok(NumberFunction::Coalesce) => coalesce(args),
+            Ok(function) => function.value_of(args),
             Err(UnknownCode) => Reply::Fails(DOES_NOT_BIND),
         }
     }
@@ -96,8 +130,8 @@ impl Host for Numbers {
         _arena: &[u8],
     ) -> RuleAnswer {
         match NumberFunction::try_from(code) {
-            Ok(NumberFunction::Coalesce) => coalesce_rule(types),
-            Ok(NumberFunction::Abs) | Err(UnknownCode) => RuleAnswer::nothing(),
+            Ok(function) => function.rule(types),
+            Err(UnknownCode) => RuleAnswer::nothing(),
         }
     }
 }

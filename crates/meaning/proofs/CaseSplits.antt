@@ -1,33 +1,31 @@
 -- Taking options, outcomes and operand lists apart.
-use Rattle.std.proofs.Common.{◌≡◌, ℕ, true, false, ◌⊎◌, List, [], ◌∷◌, Some, None, Option, sym, refl, ap}
+use Rattle.std.proofs.Common.{◌≡◌, true, false, ◌⊎◌, List, [], ◌∷◌, Some, None, Option, sym, refl, ap}
 use Rattle.std.proofs.Common.{inl, inr, arith}
 use Rattle.std.specs.Option.{option_map, option_or}
--- an answer under a test passed the test
-pub use Rattle.std.proofs.lemmas.Option.{cond_some}
+use Rattle.std.proofs.lemmas.Bool.{false≢true}
+use Rattle.std.proofs.lemmas.Option.{none-some, same_Some}
 use Rattle.vocabulary.specs.declared.operators.Connective.{Connective}
 use Rattle.meaning.specs.Kleene.{kleene}
 use Rattle.meaning.specs.Lists.{of_none, of_one, of_two, of_three}
 use Rattle.meaning.specs.Outcomes.{Fault, Outcome, value, fault, then, settled, and_then}
 use Rattle.meaning.specs.Values.{Value}
 
--- None is no answer
+-- None is no answer: the library's, of any goal
 pub none_some {ℓ} : {A : Type 0} {B : Type ℓ} (a : A) → ◌≡◌ {A = Option A} None (Some a) → B
-none_some a p = let z : ◌≡◌ {A = ℕ} 0 1 = cc in absurd (omega arith)
+none_some a p = absurd (none-some a p)
 
 pub some_none : {A : Type 0} {B : Type 0} (a : A) → ◌≡◌ {A = Option A} (Some a) None → B
 some_none a p = none_some a (sym p)
 
 -- a fault is no value
 pub fault_value : {A : Type 0} {B : Type 0} (x : Fault) (a : A) → ◌≡◌ {A = Outcome A} (fault x) (value a) → B
-fault_value x a p = let z : ◌≡◌ {A = ℕ} 0 1 = cc in absurd (omega arith)
+fault_value x a p = absurd (grind arith)
 
+-- the library's, of any goal
 pub false_true : {B : Type 0} → false ≡ true → B
-false_true p = let z : ◌≡◌ {A = ℕ} 0 1 = cc in absurd (omega arith)
+false_true p = absurd (false≢true p)
 
--- what a constructor holds is one where the results are
-pub some_same : {A : Type 0} {a b : A} → Some a ≡ Some b → a ≡ b
-some_same p = cc
-
+-- what an outcome holds is one where the outcomes are
 pub value_same : {A : Type 0} {a b : A} → value a ≡ value b → a ≡ b
 value_same p = cc
 
@@ -54,7 +52,7 @@ and_then_refused (Some a) f h = inr (a, refl, h)
 pub mapped_some : {A B : Type 0} (f : A → B) (x : Option A) (b : B) → option_map f x ≡ Some b
     → (a : A) × (x ≡ Some a) × (f a ≡ b)
 mapped_some f None b p = none_some b p
-mapped_some f (Some a) b p = (a, refl, some_same p)
+mapped_some f (Some a) b p = (a, refl, same_Some _ _ p)
 
 pub mapped_none : {A B : Type 0} (f : A → B) (x : Option A) → option_map f x ≡ None → x ≡ None
 mapped_none f None p = refl
@@ -77,7 +75,7 @@ then_value (value a) f b p = (a, refl, p)
 then_value (fault x) f b p = fault_value x b p
 
 pub settled_some : {A : Type 0} (x : Outcome A) (a : A) → settled x ≡ Some a → x ≡ value a
-settled_some (value b) a p = ap value (some_same p)
+settled_some (value b) a p = ap value (same_Some _ _ p)
 settled_some (fault x) a p = none_some a p
 
 -- going on, faults left out
@@ -125,7 +123,7 @@ three_values (fault v) y z f = refl
 module _ {A B : Type 0} where
   -- an operand list that is taken has as many operands as are asked for
   pub of_none_is : (x : B) (xs : List A) (b : B) → of_none None (Some x) xs ≡ Some b → (xs ≡ []) × (x ≡ b)
-  of_none_is x [] b p = (refl, some_same p)
+  of_none_is x [] b p = (refl, same_Some _ _ p)
   of_none_is x (a ∷ xs) b p = none_some b p
 
   pub of_none_some : (y : Option B) (xs : List A) (b : B) → of_none None y xs ≡ Some b → (xs ≡ []) × (y ≡ Some b)

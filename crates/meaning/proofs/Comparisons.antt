@@ -19,7 +19,12 @@ pub swapping_exchanges_operands : SwappingExchangesOperands
 swapping_exchanges_operands c v w = grind (arith, nat_tests)
 
 pub comparisons_from_two : ComparisonsFromTwo
-comparisons_from_two a b = (grind (arith, nat_tests), grind (arith, nat_tests), grind (arith, nat_tests), grind (arith, nat_tests))
+comparisons_from_two a b = (
+  grind (arith, nat_tests),
+  grind (arith, nat_tests),
+  grind (arith, nat_tests),
+  grind (arith, nat_tests),
+)
 
 pub null_compares_to_null : NullComparesToNull
 null_compares_to_null c v = (refl, grind arith)

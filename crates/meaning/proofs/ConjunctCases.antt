@@ -48,8 +48,8 @@ each_map P Q f (node g es) h = f (node g es) h
 pub replace_none : (g : Expr → Option Expr) (l : Expr) → replace_first g l ≡ None → EachConjunct (λ c. g c ≡ None) l
 replace_none g (logic And a b) h =
     let (p, q) =
-    or_other_none (option_map (λ c. logic And c b) (replace_first g a)) (option_map (λ c. logic And a c) (replace_first g b))
-    h in (
+    or_other_none (option_map (λ c. logic And c b) (replace_first g a))
+    (option_map (λ c. logic And a c) (replace_first g b)) h in (
       replace_none g a (mapped_none (λ c. logic And c b) (replace_first g a) p),
       replace_none g b (mapped_none (λ c. logic And a c) (replace_first g b) q),
     )
@@ -96,7 +96,9 @@ module _ (m : Meaning) (ss : Schemas) (l : Expr) (Q : Expr → Merged → Type 0
 
   pub merge_cases : (r : Expr) (x : Merged) → merge m ss l r ≡ Some x → Q r x
   merge_cases (logic And a b) x h =
-      elim (or_other_some (option_map (keep_right b) (merge m ss l a)) (option_map (keep_left a) (merge m ss l b)) x h) [
+      let left = option_map (keep_right b) (merge m ss l a) in
+      let right = option_map (keep_left a) (merge m ss l b) in
+      elim (or_other_some left right x h) [
         | inl q ↦
             let (y, e, i) = mapped_some (keep_right b) (merge m ss l a) x q in
             subst (Q (logic And a b)) i (in_left a b y e (merge_cases a y e))
@@ -112,7 +114,9 @@ module _ (m : Meaning) (ss : Schemas) where
   -- nothing is merged just where no pair straddles the And
   pub merge_none : (l r : Expr) → merge m ss l r ≡ None → Apart m ss l r
   merge_none l (logic And a b) h =
-      let (p, q) = or_other_none (option_map (keep_right b) (merge m ss l a)) (option_map (keep_left a) (merge m ss l b)) h in (
+      let left = option_map (keep_right b) (merge m ss l a) in
+      let right = option_map (keep_left a) (merge m ss l b) in
+      let (p, q) = or_other_none left right h in (
         merge_none l a (mapped_none (keep_right b) (merge m ss l a) p),
         merge_none l b (mapped_none (keep_left a) (merge m ss l b) q),
       )

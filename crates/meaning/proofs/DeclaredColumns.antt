@@ -2,6 +2,7 @@
 use Rattle.std.proofs.Common.{◌≡◌, ℕ, ◌+◌, Bool, true, false, cond, List, [], ◌∷◌, ◌++◌, Some, subst}
 use Rattle.std.proofs.lemmas.Bool.{and_parts}
 use Rattle.std.specs.Str.{bytes_eq}
+use Rattle.std.proofs.lemmas.Option.{same_Some}
 use Rattle.vocabulary.specs.Types.{is_plain}
 use Rattle.vocabulary.specs.declared.types.DType.{DType}
 use Rattle.schemas.specs.Declarations.{takes, declared_after}
@@ -9,7 +10,7 @@ use Rattle.schemas.specs.Fields.{Field, found_from}
 use Rattle.schemas.specs.declared.found.Found.{Found}
 use Rattle.meaning.specs.Columns.{column_type, DeclaredColumnsArePlain}
 use Rattle.meaning.specs.Lists.{nth}
-use Rattle.meaning.proofs.CaseSplits.{none_some, some_same, and_then_some, mapped_some}
+use Rattle.meaning.proofs.CaseSplits.{none_some, and_then_some, mapped_some}
 
 -- a column that a schema takes is plain
 taken_plain : (fs : List Field) (f : Field) → takes fs f ≡ true → is_plain f.dtype ≡ true
@@ -27,7 +28,7 @@ found_plain i n before (f ∷ fs) x p h =
         → cond b (Some (record { place = i; dtype = f.dtype })) (found_from (i + 1) n fs) ≡ Some x
         → is_plain x.dtype ≡ true
     here_or_later true later e =
-        subst (λ (z : Found). is_plain z.dtype ≡ true) (some_same e) (taken_plain before f (and_parts _ _ p).0)
+        subst (λ (z : Found). is_plain z.dtype ≡ true) (same_Some _ _ e) (taken_plain before f (and_parts _ _ p).0)
     here_or_later false later e = later e
 
 pub declared_columns_are_plain : DeclaredColumnsArePlain

@@ -40,7 +40,7 @@ then_faulted (faulted k q) f flt p h = inl (cc)
 
 -- a value is no fault
 valued_faulted : {A B : Type 0} (a : A) (flt : Fault) (p : List ℕ) → valued a ≡ faulted flt p → B
-valued_faulted a flt p h = let z : ◌≡◌ {A = ℕ} 0 1 = cc in absurd (omega arith)
+valued_faulted a flt p h = absurd (grind arith)
 
 -- the path of a fault below a child begins with the child's place
 under_faulted : {A : Type 0} (i : ℕ) (x : Placed A) (flt : Fault) (p : List ℕ) → under i x ≡ faulted flt p

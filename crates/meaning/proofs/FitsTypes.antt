@@ -3,6 +3,7 @@ use Rattle.std.proofs.Common.{◌≡◌, ℕ, ◌+◌, ◌-◌, ◌*◌, ◌/◌
 use Rattle.std.proofs.Common.{◌∷◌, ℤ, ◌+ℤ◌, ◌-ℤ◌, ◌*ℤ◌, Some, sym, refl, ap, ◌∙◌, subst, inl, inr, arith}
 use Rattle.std.proofs.lemmas.Bool.{and_parts, or_left, or_right}
 use Rattle.std.proofs.lemmas.Bool.Decides.{nat_tests}
+use Rattle.std.proofs.lemmas.Option.{cond_some}
 use Rattle.vocabulary.specs.Types.{same_kind}
 use Rattle.vocabulary.specs.declared.operators.Arithmetic.{Arithmetic}
 use Rattle.vocabulary.specs.declared.operators.Arithmetic.TheVariants.{Add, Sub, Mul, Div}
@@ -21,7 +22,7 @@ use Rattle.meaning.specs.Outcomes.{arithmetic, unlike, Outcome, value, fault}
 use Rattle.meaning.specs.Typing.{logic_type, compare_type, compute_type, between_type, cast_type}
 use Rattle.meaning.specs.Values.{Value, null, bool, signed, unsigned, text, ext, whole, boolean, is_null, fits}
 use Rattle.meaning.specs.Values.{all_fit}
-use Rattle.meaning.proofs.CaseSplits.{fault_value, false_true, value_same, cond_some, then_value}
+use Rattle.meaning.proofs.CaseSplits.{fault_value, false_true, value_same, then_value}
 
 -- null fits nullable types alone
 pub null_fits : (v : Value) (t : DType) → is_null v ≡ true → fits v t ≡ true → t.nullable ≡ true

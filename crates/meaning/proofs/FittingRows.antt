@@ -1,12 +1,13 @@
 -- A row fits just where it has one value per column, each fitting its own.
 use Rattle.std.proofs.Common.{◌≡◌, ℕ, zero, suc, true, List, [], ◌∷◌, length, Some, sym, refl, ap, ◌∙◌, arith}
 use Rattle.std.proofs.lemmas.Bool.{and_parts, and_from}
+use Rattle.std.proofs.lemmas.Option.{same_Some}
 use Rattle.schemas.specs.Fields.{Field}
 use Rattle.meaning.specs.LawsOfEvaluating.{FittingRowsMatchColumns}
 use Rattle.meaning.specs.Lists.{nth}
 use Rattle.meaning.specs.Rows.{row_fits}
 use Rattle.meaning.specs.Values.{Value, fits}
-use Rattle.meaning.proofs.CaseSplits.{none_some, false_true, some_same}
+use Rattle.meaning.proofs.CaseSplits.{none_some, false_true}
 
 -- the values at places where there are columns fit them
 abbrev EachFits : List Field → List Value → Type 0
@@ -23,8 +24,8 @@ each_fits [] vs h i f v p q = none_some f p
 each_fits (g ∷ fs) [] h i f v p q = none_some v q
 each_fits (g ∷ fs) (w ∷ vs) h zero f v p q =
     let here = (and_parts (fits w g.dtype) (row_fits fs vs) h).0 in
-    ap (λ (x : Value). fits x f.dtype) (sym (some_same q))
-    ∙ ap (λ (k : Field). fits w k.dtype) (sym (some_same p))
+    ap (λ (x : Value). fits x f.dtype) (sym (same_Some _ _ q))
+    ∙ ap (λ (k : Field). fits w k.dtype) (sym (same_Some _ _ p))
     ∙ here
 each_fits (g ∷ fs) (w ∷ vs) h (suc i) f v p q =
     each_fits fs vs (and_parts (fits w g.dtype) (row_fits fs vs) h).1 i f v p q

@@ -3,6 +3,7 @@ use Rattle.std.proofs.Common.{◌≡◌, Bool, true, false, cond, ◌&&◌, ◌|
 use Rattle.std.proofs.Common.{ap, ◌∙◌, inl, inr, arith}
 use Rattle.std.proofs.lemmas.Bool.{and_parts}
 use Rattle.std.proofs.Math.Bool.{or_assoc}
+use Rattle.std.proofs.lemmas.Option.{cond_some}
 use Rattle.vocabulary.specs.Types.{same_kind, plain_kind}
 use Rattle.vocabulary.specs.declared.operators.CompareOperator.{CompareOperator}
 use Rattle.vocabulary.specs.declared.operators.Connective.TheVariants.{And, Or}
@@ -17,7 +18,7 @@ use Rattle.meaning.specs.Ranges.{Column, Range, column_tree, bound_tree, range}
 use Rattle.meaning.specs.Trees.{Expr, logic, node, Exprs, nil, cons}
 use Rattle.meaning.specs.Typing.{is_extension, logic_type, compare_type, between_type, fn_type, typed, typed_all}
 use Rattle.meaning.specs.Values.{boolean}
-use Rattle.meaning.proofs.CaseSplits.{none_some, and_then_none, cond_some}
+use Rattle.meaning.proofs.CaseSplits.{none_some, and_then_none}
 use Rattle.meaning.proofs.FitsTypes.{kinds_commute}
 use Rattle.meaning.proofs.MergeSums.{merging_adds}
 use Rattle.meaning.proofs.RangeForms.{pair, range_inv, Sides, fuse_inv}

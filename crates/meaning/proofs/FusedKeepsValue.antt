@@ -1,6 +1,7 @@
 -- Fusing keeps the value wherever there is one.
 use Rattle.std.proofs.Common.{◌≡◌, cond, Some, None, Option, sym, refl, ap, ◌∙◌, subst, inl, inr}
 use Rattle.std.proofs.lemmas.Bool.{cond-true, cond-false}
+use Rattle.std.proofs.lemmas.Option.{same_Some}
 use Rattle.vocabulary.specs.declared.operators.CompareOperator.{CompareOperator}
 use Rattle.vocabulary.specs.declared.operators.CompareOperator.TheVariants.{Eq, NotEq, Gt, Gte, Lt, Lte}
 use Rattle.vocabulary.specs.declared.operators.Connective.TheVariants.{And, Or}
@@ -16,7 +17,7 @@ use Rattle.meaning.specs.Outcomes.{Outcome, settled, and_then}
 use Rattle.meaning.specs.Ranges.{Column, Bound, Range, column_tree, bound_tree, ranged, range}
 use Rattle.meaning.specs.Trees.{Expr, logic, node, Exprs, nil, cons}
 use Rattle.meaning.specs.Values.{Value}
-use Rattle.meaning.proofs.CaseSplits.{none_some, some_same, settled_then, settled_cons, settled_logic}
+use Rattle.meaning.proofs.CaseSplits.{none_some, settled_then, settled_cons, settled_logic}
 use Rattle.meaning.proofs.Comparisons.{swapping_exchanges_operands}
 use Rattle.meaning.proofs.FusedKeepsType.{find_typed}
 use Rattle.meaning.proofs.KleeneLaws.{kleene_commutes, kleene_associates}
@@ -33,11 +34,11 @@ range_test : (c : CompareOperator) (y : Column) (b : Bound) (p : Range) (x l : V
 range_test Eq y b p x l h = none_some p h
 range_test NotEq y b p x l h = none_some p h
 range_test Gt y b p x l h =
-    subst (λ (z : Range). compares Gt x l ≡ test z x l) (some_same h) (sym (swapping_exchanges_operands Gt x l))
+    subst (λ (z : Range). compares Gt x l ≡ test z x l) (same_Some _ _ h) (sym (swapping_exchanges_operands Gt x l))
 range_test Gte y b p x l h =
-    subst (λ (z : Range). compares Gte x l ≡ test z x l) (some_same h) (sym (swapping_exchanges_operands Gte x l))
-range_test Lt y b p x l h = subst (λ (z : Range). compares Lt x l ≡ test z x l) (some_same h) refl
-range_test Lte y b p x l h = subst (λ (z : Range). compares Lte x l ≡ test z x l) (some_same h) refl
+    subst (λ (z : Range). compares Gte x l ≡ test z x l) (same_Some _ _ h) (sym (swapping_exchanges_operands Gte x l))
+range_test Lt y b p x l h = subst (λ (z : Range). compares Lt x l ≡ test z x l) (same_Some _ _ h) refl
+range_test Lte y b p x l h = subst (λ (z : Range). compares Lte x l ≡ test z x l) (same_Some _ _ h) refl
 
 -- the And of what two expressions come to
 abbrev and_values : Option Value → Option Value → Option Value

@@ -1,5 +1,6 @@
 -- The rule of a host keeps type and value.
 use Rattle.std.proofs.Common.{◌≡◌, ℕ, zero, suc, List, [], ◌∷◌, Some, None, Option, sym, refl, ap, ◌∙◌, subst}
+use Rattle.std.proofs.lemmas.Option.{same_Some}
 use Rattle.vocabulary.specs.declared.types.DType.{DType}
 use Rattle.meaning.specs.Columns.{Schemas}
 use Rattle.meaning.specs.Evaluating.{Env, EnvFits, fn_value, eval, evals}
@@ -13,7 +14,7 @@ use Rattle.meaning.specs.Rules.{pick_children, answer_tree, host_rule}
 use Rattle.meaning.specs.Trees.{call, Expr, node, Exprs, nil, cons, nth_child}
 use Rattle.meaning.specs.Typing.{fn_type, typed, typed_all}
 use Rattle.meaning.specs.Values.{Value}
-use Rattle.meaning.proofs.CaseSplits.{none_some, some_same, value_same, and_then_some, mapped_some, then_value}
+use Rattle.meaning.proofs.CaseSplits.{none_some, value_same, and_then_some, mapped_some, then_value}
 use Rattle.meaning.proofs.CaseSplits.{settled_some, settled_then, settled_cons}
 use Rattle.meaning.proofs.LiteralOperands.{literal_eval}
 use Rattle.meaning.proofs.ValuesFit.{all_values_fit}
@@ -25,11 +26,11 @@ nth_typed m ss nil ts i d p q = none_some d q
 nth_typed m ss (cons e es) ts zero d p q =
     let (ta, pa, p1) = and_then_some (typed m ss e) _ ts p in
     let (tb, pb, p2) = and_then_some (typed_all m ss es) _ ts p1 in
-    ap (typed m ss) (sym (some_same q)) ∙ pa ∙ ap (λ (z : List DType). nth z zero) (some_same p2)
+    ap (typed m ss) (sym (same_Some _ _ q)) ∙ pa ∙ ap (λ (z : List DType). nth z zero) (same_Some _ _ p2)
 nth_typed m ss (cons e es) ts (suc i) d p q =
     let (ta, pa, p1) = and_then_some (typed m ss e) _ ts p in
     let (tb, pb, p2) = and_then_some (typed_all m ss es) _ ts p1 in
-    nth_typed m ss es tb i d pb q ∙ ap (λ (z : List DType). nth z (suc i)) (some_same p2)
+    nth_typed m ss es tb i d pb q ∙ ap (λ (z : List DType). nth z (suc i)) (same_Some _ _ p2)
 
 -- and the value at that place
 nth_eval : (m : Meaning) (r : Env) (es : Exprs) (vs : List Value) (i : ℕ) (d : Expr) → evals m r es ≡ value vs
@@ -38,7 +39,7 @@ nth_eval m r nil vs i d p q = none_some d q
 nth_eval m r (cons e es) vs zero d p q =
     let (ta, pa, p1) = then_value (eval m r e) _ vs p in
     let (tb, pb, p2) = then_value (evals m r es) _ vs p1 in
-    ap (λ (z : Expr). settled (eval m r z)) (sym (some_same q))
+    ap (λ (z : Expr). settled (eval m r z)) (sym (same_Some _ _ q))
     ∙ ap settled pa
     ∙ ap (λ (z : List Value). nth z zero) (value_same p2)
 nth_eval m r (cons e es) vs (suc i) d p q =
@@ -49,19 +50,20 @@ nth_eval m r (cons e es) vs (suc i) d p q =
 -- so do children picked by their places
 pick_typed : (m : Meaning) (ss : Schemas) (es : Exprs) (ts : List DType) (is : List ℕ) (ds : Exprs)
     → typed_all m ss es ≡ Some ts → pick_children es is ≡ Some ds → typed_all m ss ds ≡ picks ts is
-pick_typed m ss es ts [] ds p q = ap (typed_all m ss) (sym (some_same q))
+pick_typed m ss es ts [] ds p q = ap (typed_all m ss) (sym (same_Some _ _ q))
 pick_typed m ss es ts (i ∷ is) ds p q =
     let (d, a, q1) = and_then_some (nth_child es i) _ ds q in
     let (rest, b, q2) = and_then_some (pick_children es is) _ ds q1 in
-    ap (typed_all m ss) (sym (some_same q2)) ∙ simp (nth_typed m ss es ts i d p a, pick_typed m ss es ts is rest p b)
+    ap (typed_all m ss) (sym (same_Some _ _ q2))
+    ∙ simp (nth_typed m ss es ts i d p a, pick_typed m ss es ts is rest p b)
 
 pick_eval : (m : Meaning) (r : Env) (es : Exprs) (vs : List Value) (is : List ℕ) (ds : Exprs)
     → evals m r es ≡ value vs → pick_children es is ≡ Some ds → settled (evals m r ds) ≡ picks vs is
-pick_eval m r es vs [] ds p q = ap (λ (z : Exprs). settled (evals m r z)) (sym (some_same q))
+pick_eval m r es vs [] ds p q = ap (λ (z : Exprs). settled (evals m r z)) (sym (same_Some _ _ q))
 pick_eval m r es vs (i ∷ is) ds p q =
     let (d, a, q1) = and_then_some (nth_child es i) _ ds q in
     let (rest, b, q2) = and_then_some (pick_children es is) _ ds q1 in
-    ap (λ (z : Exprs). settled (evals m r z)) (sym (some_same q2))
+    ap (λ (z : Exprs). settled (evals m r z)) (sym (same_Some _ _ q2))
     ∙ settled_cons (eval m r d) (evals m r rest)
     ∙ simp (nth_eval m r es vs i d p a, pick_eval m r es vs is rest p b)
 
@@ -100,7 +102,7 @@ module _ (m : Meaning) (law : Lawful m) (ss : Schemas) (r : Env) (ok : EnvFits s
     λ vs v g h. settled_some (eval m r d) v (nth_eval m r es vs i d g q ∙ f vs v g h),
   )
   answer_stands c es ts t d (constant w) p a f q =
-      subst (λ (z : Expr). Stands t ts es c z) (some_same q) (a, λ vs v g h. ap value (some_same (f vs v g h)))
+      subst (λ (z : Expr). Stands t ts es c z) (same_Some _ _ q) (a, λ vs v g h. ap value (same_Some _ _ (f vs v g h)))
   answer_stands c es ts t d (other k is) p a f q =
       let (ds, b, e) = mapped_some (node (call k)) (pick_children es is) d q in
       subst (λ (z : Expr). Stands t ts es c z) e (
@@ -120,7 +122,7 @@ module _ (m : Meaning) (law : Lawful m) (ss : Schemas) (r : Env) (ok : EnvFits s
   host_rule_refines c es t d p h =
       let (us, b, h1) = and_then_some (typed_all m ss es) _ d h in
       let (u, a, h2) = and_then_some (typed m ss (node (call c) es)) _ d h1 in
-      let e : u ≡ t = some_same (sym a ∙ p) in
+      let e : u ≡ t = same_Some _ _ (sym a ∙ p) in
       let k : host_type m c us ≡ Some t = ap (λ (z : Option (List DType)). and_then z (host_type m c)) (sym b) ∙ p in
       let g : answer_tree t es (m.rule c us (literals_of es)) ≡ Some d = rw e at h2 in
       let (x, y) =

@@ -2,6 +2,7 @@
 use Rattle.std.proofs.Common.{◌≡◌, ℕ, Bool, true, false, cond, ◌&&◌, ◌||◌, List, [], ◌∷◌, Some, sym, refl, ap, ◌∙◌}
 use Rattle.std.proofs.Common.{subst, arith}
 use Rattle.std.proofs.lemmas.Bool.{and_parts}
+use Rattle.std.proofs.lemmas.Option.{same_Some, cond_some}
 use Rattle.vocabulary.specs.Types.{same_kind, plain_kind}
 use Rattle.vocabulary.specs.declared.operators.BetweenOptions.{BetweenOptions}
 use Rattle.vocabulary.specs.declared.operators.CompareOperator.{CompareOperator}
@@ -23,7 +24,7 @@ use Rattle.meaning.specs.Trees.{Exprs, nil, cons}
 use Rattle.meaning.specs.Typing.{item_type, compare_type, between_type, cast_type, fn_type, typed, typed_all}
 use Rattle.meaning.specs.Values.{Value, null, bool, signed, unsigned, text, ext, whole, is_null, kind_of, fits}
 use Rattle.meaning.specs.Values.{all_fit}
-use Rattle.meaning.proofs.CaseSplits.{none_some, false_true, some_same, and_then_some, cond_some, of_none_is}
+use Rattle.meaning.proofs.CaseSplits.{none_some, false_true, and_then_some, of_none_is}
 use Rattle.meaning.proofs.CaseSplits.{of_none_some, of_one_some, of_two_some, of_three_some}
 use Rattle.meaning.proofs.FitsTypes.{one_kind, kinds_commute, fit_nil, fit_one, fit_two, fit_three}
 use Rattle.meaning.proofs.RowsAtRoots.{item_rowless, typed_cons, rows_are_roots}
@@ -98,7 +99,7 @@ row_solid : (m : Meaning) → Lawful m → (ss : Schemas) → ColumnsPlain ss �
 unfolding fn_type
 row_solid m law ss plainly e t s p k =
     ap (λ (z : DType). z.nullable)
-    (sym (some_same (ap (typed m ss) (sym (rows_are_roots m law ss plainly e t s p k)) ∙ p)))
+    (sym (same_Some _ _ (ap (typed m ss) (sym (rows_are_roots m law ss plainly e t s p k)) ∙ p)))
 
 -- so the operand of a GetItem is not nullable
 pub item_solid : (m : Meaning) → Lawful m → (ss : Schemas) → ColumnsPlain ss → (es : Exprs) (ts : List DType)

@@ -2,6 +2,7 @@
 use Rattle.std.proofs.Common.{◌≡◌, Bool, true, false, not, ◌||◌, List, [], Some, None, Option, sym, refl, ap, ◌∙◌}
 use Rattle.std.proofs.Common.{subst, arith}
 use Rattle.std.proofs.lemmas.Bool.{and_parts}
+use Rattle.std.proofs.lemmas.Option.{same_Some, cond_some}
 use Rattle.vocabulary.specs.declared.types.DType.{DType}
 use Rattle.vocabulary.specs.declared.types.Kind.TheVariants as kind
 use Rattle.meaning.specs.Columns.{Schemas}
@@ -15,12 +16,12 @@ use Rattle.meaning.specs.Trees.{Fn, root, literal, get_item, cast, compare, comp
 use Rattle.meaning.specs.Trees.{Exprs, nil, cons}
 use Rattle.meaning.specs.Typing.{fn_type, typed}
 use Rattle.meaning.specs.Values.{Value, null, bool, boolean, fits}
-use Rattle.meaning.proofs.CaseSplits.{none_some, false_true, some_same, cond_some, listed}
+use Rattle.meaning.proofs.CaseSplits.{none_some, false_true, listed}
 use Rattle.meaning.proofs.FitsTypes.{cast_same}
 
 fn_literal_inv : (f : Fn) (es : Exprs) (v : Value) → fn_literal f es ≡ Some v → (t : DType) × (node f es ≡ lit t v)
 fn_literal_inv (root s) es v p = none_some v p
-fn_literal_inv (literal t w) nil v p = (t, ap (lit t) (some_same p))
+fn_literal_inv (literal t w) nil v p = (t, ap (lit t) (same_Some _ _ p))
 fn_literal_inv (literal t w) (cons e es) v p = none_some v p
 fn_literal_inv (get_item n) es v p = none_some v p
 fn_literal_inv (cast t) es v p = none_some v p

@@ -1,6 +1,7 @@
 -- The rules of And and Or keep type and value.
 use Rattle.std.proofs.Common.{◌≡◌, Bool, true, false, cond, not, ◌||◌, Some, sym, refl, ap, ◌∙◌, arith}
 use Rattle.std.proofs.lemmas.Bool.{and_parts}
+use Rattle.std.proofs.lemmas.Option.{same_Some, cond_some}
 use Rattle.vocabulary.specs.Types.{same_kind}
 use Rattle.vocabulary.specs.declared.operators.Connective.{Connective}
 use Rattle.vocabulary.specs.declared.operators.Connective.TheVariants.{And, Or}
@@ -19,7 +20,7 @@ use Rattle.meaning.specs.Rules.{nullable_of, widen, drop_truth, simplify_logic, 
 use Rattle.meaning.specs.Trees.{Expr, logic}
 use Rattle.meaning.specs.Typing.{typed}
 use Rattle.meaning.specs.Values.{Value, null, bool, boolean}
-use Rattle.meaning.proofs.CaseSplits.{none_some, some_same, value_same, and_then_some, cond_some, then_value}
+use Rattle.meaning.proofs.CaseSplits.{none_some, value_same, and_then_some, then_value}
 use Rattle.meaning.proofs.FitsTypes.{one_kind, bool_value}
 use Rattle.meaning.proofs.KleeneLaws.{kleene_commutes, deciding_truths}
 use Rattle.meaning.proofs.LiteralOperands.{seen_truth, seen_null, lit_bool, lit_eval, literal_eval, widen_same}
@@ -110,11 +111,13 @@ module _ (m : Meaning) (law : Lawful m) (ss : Schemas) (r : Env) (ok : EnvFits s
   simplify_kept : (o : Connective) (a b d : Expr) (ka kb : Bool) (s t : Seen) → typed m ss a ≡ Some (boolean ka)
       → typed m ss b ≡ Some (boolean kb) → seen a ≡ s → seen b ≡ t
       → simplify_logic o (ka || kb) ka kb a b s t ≡ Some d → Kept o (ka || kb) a b d
-  simplify_kept o a b d ka kb (sees_truth x) t pa pb sa sb h = left_truth o a b d ka kb x pb sa (some_same h)
-  simplify_kept o a b d ka kb sees_null (sees_truth y) pa pb sa sb h = right_truth o a b d ka kb y pa sb (some_same h)
-  simplify_kept o a b d ka kb sees_null sees_null pa pb sa sb h = both_null o a b d ka kb pa sa sb (some_same h)
+  simplify_kept o a b d ka kb (sees_truth x) t pa pb sa sb h = left_truth o a b d ka kb x pb sa (same_Some _ _ h)
+  simplify_kept o a b d ka kb sees_null (sees_truth y) pa pb sa sb h =
+      right_truth o a b d ka kb y pa sb (same_Some _ _ h)
+  simplify_kept o a b d ka kb sees_null sees_null pa pb sa sb h = both_null o a b d ka kb pa sa sb (same_Some _ _ h)
   simplify_kept o a b d ka kb sees_null sees_other pa pb sa sb h = none_some d h
-  simplify_kept o a b d ka kb sees_other (sees_truth y) pa pb sa sb h = right_truth o a b d ka kb y pa sb (some_same h)
+  simplify_kept o a b d ka kb sees_other (sees_truth y) pa pb sa sb h =
+      right_truth o a b d ka kb y pa sb (same_Some _ _ h)
   simplify_kept o a b d ka kb sees_other sees_null pa pb sa sb h = none_some d h
   simplify_kept o a b d ka kb sees_other sees_other pa pb sa sb h = none_some d h
 

@@ -1,6 +1,7 @@
 -- A comparison with a null literal is null.
 use Rattle.std.proofs.Common.{◌≡◌, Bool, true, false, cond, ◌||◌, List, [], ◌∷◌, Some, None, sym, refl, ap, ◌∙◌}
 use Rattle.std.proofs.Common.{subst, arith}
+use Rattle.std.proofs.lemmas.Option.{same_Some, cond_some}
 use Rattle.vocabulary.specs.declared.operators.CompareOperator.{CompareOperator}
 use Rattle.vocabulary.specs.declared.types.DType.{DType}
 use Rattle.meaning.specs.Columns.{Schemas}
@@ -14,8 +15,8 @@ use Rattle.meaning.specs.Outcomes.{malformed, value, fault}
 use Rattle.meaning.specs.Trees.{compare, Expr, node, Exprs, nil, cons}
 use Rattle.meaning.specs.Typing.{compare_type, fn_type, typed, typed_all}
 use Rattle.meaning.specs.Values.{Value, null, boolean, is_null}
-use Rattle.meaning.proofs.CaseSplits.{none_some, fault_value, false_true, some_same, value_same, and_then_some}
-use Rattle.meaning.proofs.CaseSplits.{cond_some, then_value, of_two_some}
+use Rattle.meaning.proofs.CaseSplits.{none_some, fault_value, false_true, value_same, and_then_some}
+use Rattle.meaning.proofs.CaseSplits.{then_value, of_two_some}
 use Rattle.meaning.proofs.LiteralOperands.{literal_inv, null_literal, lit_typed, literal_eval}
 
 -- one of the types is nullable
@@ -53,7 +54,7 @@ nulls_typed m ss nil ts h p = false_true h
 nulls_typed m ss (cons e es) ts h p =
     let (ta, pa, p1) = and_then_some (typed m ss e) _ ts p in
     let (tb, pb, p2) = and_then_some (typed_all m ss es) _ ts p1 in
-    subst (λ (z : List DType). any_nullable z ≡ true) (some_same p2)
+    subst (λ (z : List DType). any_nullable z ≡ true) (same_Some _ _ p2)
     (or_mono _ _ _ _ (λ k. null_typed m ss e ta k pa) (λ k. nulls_typed m ss es tb k pb) h)
 
 -- and one of their values is null
@@ -99,5 +100,5 @@ module _ (m : Meaning) (ss : Schemas) (r : Env) where
       → cond b (Some (lit (boolean true) null)) None ≡ Some d → typed m ss (node (compare c) es) ≡ Some t
       → Refines m ss r t (node (compare c) es) d
   compare_refines c es t d true h k p =
-      subst (λ (z : Expr). Refines m ss r t (node (compare c) es) z) (some_same k) (null_compare_refines c es t h p)
+      subst (λ (z : Expr). Refines m ss r t (node (compare c) es) z) (same_Some _ _ k) (null_compare_refines c es t h p)
   compare_refines c es t d false h k p = none_some d k

@@ -1,6 +1,7 @@
 -- No rule fires in an optimized expression, and optimizing it again changes nothing.
 use Rattle.std.proofs.Common.{◌≡◌, ℕ, zero, suc, Bool, true, false, cond, List, [], ◌∷◌, Some, None, Option, refl}
 use Rattle.std.proofs.Common.{subst}
+use Rattle.std.proofs.lemmas.Option.{same_Some}
 use Rattle.vocabulary.specs.declared.operators.Connective.{Connective}
 use Rattle.vocabulary.specs.declared.types.DType.{DType}
 use Rattle.meaning.specs.Columns.{Schemas}
@@ -15,7 +16,7 @@ use Rattle.meaning.specs.Trees.{root, literal, get_item, cast, compare, compute,
 use Rattle.meaning.specs.Trees.{Exprs, nil, cons, nth_child}
 use Rattle.meaning.specs.Typing.{typed, typed_all}
 use Rattle.meaning.specs.Values.{Value, null, bool, boolean}
-use Rattle.meaning.proofs.CaseSplits.{none_some, some_same, and_then_some, mapped_some}
+use Rattle.meaning.proofs.CaseSplits.{none_some, and_then_some, mapped_some}
 use Rattle.meaning.proofs.RoundsOfRules.{rounds_relate, rounds_end, rounds_rest, no_round}
 
 -- each of the children has P
@@ -68,38 +69,38 @@ module _ (m : Meaning) (ss : Schemas) where
     logic_children : (o : Connective) (n ka kb : Bool) (a b d : Expr) (s t : Seen) → P a → P b
         → simplify_logic o n ka kb a b s t ≡ Some d → Children P d
     logic_children o n ka kb a b d (sees_truth x) t pa pb h =
-        subst (Children P) (some_same h) (drop_children (decides o x) o n kb b pb)
+        subst (Children P) (same_Some _ _ h) (drop_children (decides o x) o n kb b pb)
     logic_children o n ka kb a b d sees_null (sees_truth y) pa pb h =
-        subst (Children P) (some_same h) (drop_children (decides o y) o n ka a pa)
+        subst (Children P) (same_Some _ _ h) (drop_children (decides o y) o n ka a pa)
     logic_children o n ka kb a b d sees_null sees_null pa pb h =
-        subst (Children P) (some_same h) (widen_children n ka a (literal_of a) pa)
+        subst (Children P) (same_Some _ _ h) (widen_children n ka a (literal_of a) pa)
     logic_children o n ka kb a b d sees_null sees_other pa pb h = none_some d h
     logic_children o n ka kb a b d sees_other (sees_truth y) pa pb h =
-        subst (Children P) (some_same h) (drop_children (decides o y) o n ka a pa)
+        subst (Children P) (same_Some _ _ h) (drop_children (decides o y) o n ka a pa)
     logic_children o n ka kb a b d sees_other sees_null pa pb h = none_some d h
     logic_children o n ka kb a b d sees_other sees_other pa pb h = none_some d h
 
     null_children : (b : Bool) (d : Expr) → cond b (Some (lit (boolean true) null)) None ≡ Some d → Children P d
-    null_children true d h = subst (Children P) (some_same h) tt
+    null_children true d h = subst (Children P) (same_Some _ _ h) tt
     null_children false d h = none_some d h
 
     nth_child_has : (es : Exprs) (i : ℕ) (d : Expr) → AllOf P es → nth_child es i ≡ Some d → P d
     nth_child_has nil i d p h = none_some d h
-    nth_child_has (cons e es) zero d p h = subst P (some_same h) p.0
+    nth_child_has (cons e es) zero d p h = subst P (same_Some _ _ h) p.0
     nth_child_has (cons e es) (suc i) d p h = nth_child_has es i d p.1 h
 
     picked_have : (es : Exprs) (is : List ℕ) (ds : Exprs) → AllOf P es → pick_children es is ≡ Some ds → AllOf P ds
-    picked_have es [] ds p h = subst (AllOf P) (some_same h) tt
+    picked_have es [] ds p h = subst (AllOf P) (same_Some _ _ h) tt
     picked_have es (i ∷ is) ds p h =
         let (d, a, h1) = and_then_some (nth_child es i) _ ds h in
         let (rest, b, h2) = and_then_some (pick_children es is) _ ds h1 in
-        subst (AllOf P) (some_same h2) (nth_child_has es i d p a, picked_have es is rest p b)
+        subst (AllOf P) (same_Some _ _ h2) (nth_child_has es i d p a, picked_have es is rest p b)
 
     answer_children : (t : DType) (es : Exprs) (d : Expr) (x : Answer) → AllOf P es → answer_tree t es x ≡ Some d
         → Children P d
     answer_children t es d nothing p h = none_some d h
     answer_children t es d (child i) p h = down d (nth_child_has es i d p h)
-    answer_children t es d (constant v) p h = subst (Children P) (some_same h) tt
+    answer_children t es d (constant v) p h = subst (Children P) (same_Some _ _ h) tt
     answer_children t es d (other c is) p h =
         let (ds, a, e) = mapped_some (node (call c)) (pick_children es is) d h in
         subst (Children P) e (picked_have es is ds p a)
@@ -131,11 +132,11 @@ module _ (m : Meaning) (ss : Schemas) where
 
   all_answers : (P : Expr → Type 0) (f : Expr → Option Expr) → ((e d : Expr) → f e ≡ Some d → P d) → (es ds : Exprs)
       → map_all f es ≡ Some ds → AllOf P ds
-  all_answers P f g nil ds h = subst (AllOf P) (some_same h) tt
+  all_answers P f g nil ds h = subst (AllOf P) (same_Some _ _ h) tt
   all_answers P f g (cons e es) ds h =
       let (d, a, h1) = and_then_some (f e) _ ds h in
       let (rest, b, h2) = and_then_some (map_all f es) _ ds h1 in
-      subst (AllOf P) (some_same h2) (g e d a, all_answers P f g es rest b)
+      subst (AllOf P) (same_Some _ _ h2) (g e d a, all_answers P f g es rest b)
 
   -- an expression over answers that have P
   children_answers : (P : Expr → Type 0) (f : Expr → Option Expr) → ((e d : Expr) → f e ≡ Some d → P d) → (e d : Expr)
@@ -143,10 +144,10 @@ module _ (m : Meaning) (ss : Schemas) where
   children_answers P f g (logic o a b) d h =
       let (c, ha, h1) = and_then_some (f a) _ d h in
       let (e, hb, h2) = and_then_some (f b) _ d h1 in
-      subst (Children P) (some_same h2) (g a c ha, g b e hb)
+      subst (Children P) (same_Some _ _ h2) (g a c ha, g b e hb)
   children_answers P f g (node k es) d h =
       let (ds, hs, h1) = and_then_some (map_all f es) _ d h in
-      subst (Children P) (some_same h1) (all_answers P f g es ds hs)
+      subst (Children P) (same_Some _ _ h1) (all_answers P f g es ds hs)
 
   -- optimizing ends in a still expression
   pub optimize_still : (k : ℕ) (e d : Expr) → optimize m ss k e ≡ Some d → Still k d

@@ -37,12 +37,12 @@ truncated a b h =
 -- a result that there is room for
 kept : {A : Type 0} (b : Bool) (v w : A) (x : Fault) → cond b (value v) (fault x) ≡ value w → v ≡ w
 kept true v w x h = cc
-kept false v w x h = let z : ◌≡◌ {A = ℕ} 0 1 = cc in absurd (omega arith)
+kept false v w x h = absurd (grind arith)
 
 -- a result past a test
 passed : {A : Type 0} (b : Bool) (x : Fault) (o : Outcome A) (w : A)
     → cond b (fault x) o ≡ value w → (b ≡ false) × (o ≡ value w)
-passed true x o w h = let z : ◌≡◌ {A = ℕ} 0 1 = cc in absurd (omega arith)
+passed true x o w h = absurd (grind arith)
 passed false x o w h = (refl, h)
 
 positive : (n : ℕ) → eqb n 0 ≡ false → 0 < n
@@ -105,3 +105,5 @@ results_are_exact = (signed_ones, unsigned_ones)
       cond-true (ltb a b) (fault arithmetic) (unsigned_result (a - b)),
       λ h. rw (cond-false (ltb a b) (fault arithmetic) (unsigned_result (a - b)) h) (exact _ _),
     )
+
+pub ruleset arithmetic_is_exact = (quotients_drop_the_fraction, zero_divisors_fault, results_are_exact)

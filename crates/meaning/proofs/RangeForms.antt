@@ -3,6 +3,7 @@ use Rattle.std.proofs.Common.{◌≡◌, ℕ, Bool, true, false, cond, ◌⊎◌
 use Rattle.std.proofs.Common.{inr}
 use Rattle.std.proofs.lemmas.Slice.Eq.{bytes_eq-Decides}
 use Rattle.std.proofs.lemmas.Bool.{and_parts, eqb-true}
+use Rattle.std.proofs.lemmas.Option.{same_Some}
 use Rattle.vocabulary.specs.declared.operators.CompareOperator.{CompareOperator}
 use Rattle.vocabulary.specs.declared.operators.CompareOperator.TheVariants.{Eq, NotEq, Gt, Gte, Lt, Lte}
 use Rattle.vocabulary.specs.declared.types.DType.{DType}
@@ -16,10 +17,10 @@ use Rattle.meaning.specs.Ranges.{column_of, bound_of, ranged, range_two, range}
 use Rattle.meaning.specs.Trees.{Fn, root, literal, get_item, cast, compare, compute, between, call, Expr, logic, node}
 use Rattle.meaning.specs.Trees.{Exprs, nil, cons}
 use Rattle.meaning.specs.Typing.{typed}
-use Rattle.meaning.proofs.CaseSplits.{none_some, some_same, and_then_some, mapped_some, or_other_some}
+use Rattle.meaning.proofs.CaseSplits.{none_some, and_then_some, mapped_some, or_other_some}
 
 fn_root_inv : (f : Fn) (es : Exprs) (s : ℕ) → fn_root f es ≡ Some s → node f es ≡ node (root s) nil
-fn_root_inv (root s) nil t h = ap (λ (z : ℕ). node (root z) nil) (some_same h)
+fn_root_inv (root s) nil t h = ap (λ (z : ℕ). node (root z) nil) (same_Some _ _ h)
 fn_root_inv (root s) (cons e es) t h = none_some t h
 fn_root_inv (literal t v) es s h = none_some s h
 fn_root_inv (get_item n) es s h = none_some s h
@@ -57,7 +58,7 @@ column_inv (node (call c) es) x h = none_some x h
 bound_inv : (e : Expr) (x : Bound) → bound_of e ≡ Some x → e ≡ bound_tree x
 bound_inv (logic o a b) x h = none_some x h
 bound_inv (node (root s) es) x h = none_some x h
-bound_inv (node (literal t v) nil) x h = ap bound_tree (some_same h)
+bound_inv (node (literal t v) nil) x h = ap bound_tree (same_Some _ _ h)
 bound_inv (node (literal t v) (cons e es)) x h = none_some x h
 bound_inv (node (get_item n) es) x h = none_some x h
 bound_inv (node (cast t) es) x h = none_some x h
@@ -81,10 +82,10 @@ ranged_parts : (c : CompareOperator) (x : Column) (l : Bound) (p : Range) → ra
     → (x ≡ p.col) × (l ≡ p.bound)
 ranged_parts Eq x l p h = none_some p h
 ranged_parts NotEq x l p h = none_some p h
-ranged_parts Gt x l p h = let e = some_same h in (ap (λ (z : Range). z.col) e, ap (λ (z : Range). z.bound) e)
-ranged_parts Gte x l p h = let e = some_same h in (ap (λ (z : Range). z.col) e, ap (λ (z : Range). z.bound) e)
-ranged_parts Lt x l p h = let e = some_same h in (ap (λ (z : Range). z.col) e, ap (λ (z : Range). z.bound) e)
-ranged_parts Lte x l p h = let e = some_same h in (ap (λ (z : Range). z.col) e, ap (λ (z : Range). z.bound) e)
+ranged_parts Gt x l p h = let e = same_Some _ _ h in (ap (λ (z : Range). z.col) e, ap (λ (z : Range). z.bound) e)
+ranged_parts Gte x l p h = let e = same_Some _ _ h in (ap (λ (z : Range). z.col) e, ap (λ (z : Range). z.bound) e)
+ranged_parts Lt x l p h = let e = same_Some _ _ h in (ap (λ (z : Range). z.col) e, ap (λ (z : Range). z.bound) e)
+ranged_parts Lte x l p h = let e = same_Some _ _ h in (ap (λ (z : Range). z.col) e, ap (λ (z : Range). z.bound) e)
 
 range_two_inv : (c : CompareOperator) (a b : Expr) (p : Range) → range_two c a b ≡ Some p → Ranges (pair c a b) p
 range_two_inv c a b p h =
@@ -142,7 +143,7 @@ one_column x y h =
 bound_is : (m : Meaning) (ss : Schemas) (e b : Expr) (x : Option DType) → typed m ss e ≡ x
     → if_typed m ss e x ≡ Some b → (e ≡ b) × ((s : DType) × (typed m ss e ≡ Some s))
 bound_is m ss e b None i h = none_some b h
-bound_is m ss e b (Some t) i h = (some_same h, (t, i))
+bound_is m ss e b (Some t) i h = (same_Some _ _ h, (t, i))
 
 -- p is the lower range and q the upper, and their Between is b, which binds
 abbrev pub Sides : Meaning → Schemas → Range → Range → Expr → Type 0

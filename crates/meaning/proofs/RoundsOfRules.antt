@@ -1,6 +1,7 @@
 -- Rounds are steps of simplify: reduce answers as simplify does.
 use Rattle.std.proofs.Common.{◌≡◌, ℕ, zero, suc, Bool, true, false, cond, ◌⊎◌, Some, None, Option, sym, refl, ap, ◌∙◌}
 use Rattle.std.proofs.Common.{subst, inl, inr}
+use Rattle.std.proofs.lemmas.Option.{same_Some}
 use Rattle.vocabulary.specs.declared.operators.Connective.{Connective}
 use Rattle.vocabulary.specs.declared.operators.Connective.TheVariants.{And, Or}
 use Rattle.meaning.specs.Columns.{Schemas}
@@ -12,7 +13,7 @@ use Rattle.meaning.specs.Optimizing.{or_itself, round_by, round, rounds_step, ro
 use Rattle.meaning.specs.Rules.{widen_as, widen, simplify_logic, reduce_logic, simplify, reduce}
 use Rattle.meaning.specs.Trees.{Expr, logic, node}
 use Rattle.meaning.specs.Values.{bool, boolean}
-use Rattle.meaning.proofs.CaseSplits.{none_some, some_none, some_same}
+use Rattle.meaning.proofs.CaseSplits.{none_some, some_none}
 use Rattle.meaning.proofs.LiteralOperands.{seen_truth}
 
 -- a literal truth at the node's nullability is the literal of it
@@ -64,7 +65,7 @@ module _ (m : Meaning) (ss : Schemas) where
       first : (x : Option Expr) → simplify m ss e ≡ x → round_by x (reduce m ss) e ≡ Some d
           → (simplify m ss e ≡ Some d) ⊎ ((c : Expr) × (simplify m ss e ≡ Some c) × (simplify m ss c ≡ Some d))
       first None i h = inl (reduce_simplify m ss e d h)
-      first (Some c) i h = then_reduce c (reduce m ss c) i refl (some_same h)
+      first (Some c) i h = then_reduce c (reduce m ss c) i refl (same_Some _ _ h)
 
   -- a relation that is reflexive and transitive and holds of each step of simplify holds of rounds
   module _ (R : Expr → Expr → Type 0) (self : (e : Expr) → R e e) (next : (a b c : Expr) → R a b → R b c → R a c)
@@ -76,7 +77,7 @@ module _ (m : Meaning) (ss : Schemas) where
 
     step_relates : (more : Expr → Option Expr) → ((e d : Expr) → more e ≡ Some d → R e d)
         → (e d : Expr) (x : Option Expr) → round m ss e ≡ x → rounds_step more e x ≡ Some d → R e d
-    step_relates more f e d None i h = subst (R e) (some_same h) (self e)
+    step_relates more f e d None i h = subst (R e) (same_Some _ _ h) (self e)
     step_relates more f e d (Some c) i h = next e c d (round_relates e c i) (f c d h)
 
     pub rounds_relate : (k : ℕ) (e d : Expr) → rounds m ss k e ≡ Some d → R e d
@@ -86,7 +87,7 @@ module _ (m : Meaning) (ss : Schemas) where
 
   step_ends : (more : Expr → Option Expr) → ((e d : Expr) → more e ≡ Some d → round m ss d ≡ None)
       → (e d : Expr) (x : Option Expr) → round m ss e ≡ x → rounds_step more e x ≡ Some d → round m ss d ≡ None
-  step_ends more f e d None i h = subst (λ (z : Expr). round m ss z ≡ None) (some_same h) i
+  step_ends more f e d None i h = subst (λ (z : Expr). round m ss z ≡ None) (same_Some _ _ h) i
   step_ends more f e d (Some c) i h = f c d h
 
   -- rounds end where none changes the expression

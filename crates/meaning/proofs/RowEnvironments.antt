@@ -5,6 +5,7 @@ use Rattle.std.proofs.lemmas.Bool.{and_parts, eqb-true}
 use Rattle.std.proofs.lemmas.Bool.Decides.{nat_tests}
 use Rattle.std.specs.Option.{option_map}
 use Rattle.std.specs.Str.{bytes_eq}
+use Rattle.std.proofs.lemmas.Option.{same_Some}
 use Rattle.vocabulary.specs.declared.types.DType.{DType}
 use Rattle.vocabulary.specs.declared.types.Kind.{Kind}
 use Rattle.schemas.specs.Fields.{Field, found, found_from}
@@ -17,7 +18,7 @@ use Rattle.meaning.specs.Ranges.{column_tree}
 use Rattle.meaning.specs.Rows.{row_fits, value_in, some_value, value_or, or_no_columns, columns_of, row_env}
 use Rattle.meaning.specs.Typing.{fn_type, typed}
 use Rattle.meaning.specs.Values.{Value, fits}
-use Rattle.meaning.proofs.CaseSplits.{none_some, false_true, some_same, and_then_some}
+use Rattle.meaning.proofs.CaseSplits.{none_some, false_true, and_then_some}
 use Rattle.meaning.proofs.RowsAtRoots.{items_are_of_roots}
 
 -- each type has a value
@@ -41,7 +42,7 @@ in_row i (c ∷ cs) (v ∷ vs) n t p h =
         → (w : Value) × (value_in cs vs n ≡ Some w) × (fits w t ≡ true))
         → option_map (λ c. c.dtype) (cond b (Some (record { place = i; dtype = c.dtype })) (found_from (i + 1) n cs))
         ≡ Some t → (w : Value) × (cond b (Some v) (value_in cs vs n) ≡ Some w) × (fits w t ≡ true)
-    go true f g e = (v, refl, subst (λ (z : DType). fits v z ≡ true) (some_same e) f)
+    go true f g e = (v, refl, subst (λ (z : DType). fits v z ≡ true) (same_Some _ _ e) f)
     go false f g e = g e
 
 -- the type of a column is that of the column found
@@ -83,7 +84,7 @@ from_place i n (c ∷ cs) f p = go (bytes_eq c.name n) (λ e. from_place (i + 1)
   where
     go : (b : Bool) → (found_from (i + 1) n cs ≡ Some f → i + 1 ≤ f.place)
         → cond b (Some (record { place = i; dtype = c.dtype })) (found_from (i + 1) n cs) ≡ Some f → i ≤ f.place
-    go true g e = let h = ap (λ (z : Found). z.place) (some_same e) in omega arith
+    go true g e = let h = ap (λ (z : Found). z.place) (same_Some _ _ e) in omega arith
     go false g e = let h = g e in omega arith
 
 -- the column found at a place reads the value at that place
@@ -103,7 +104,7 @@ value_at (c ∷ cs) (w ∷ vs) n i (suc j) f v p q h =
     go : (b : Bool) → (found_from (i + 1) n cs ≡ Some f → value_in cs vs n ≡ Some v)
         → cond b (Some (record { place = i; dtype = c.dtype })) (found_from (i + 1) n cs) ≡ Some f
         → cond b (Some w) (value_in cs vs n) ≡ Some v
-    go true g e = let k = ap (λ (z : Found). z.place) (some_same e) in absurd (omega arith)
+    go true g e = let k = ap (λ (z : Found). z.place) (same_Some _ _ e) in absurd (omega arith)
     go false g e = g e
 
 pub items_read_their_place : ItemsReadTheirPlace

@@ -1,6 +1,7 @@
 -- A whole row is the value of a Root alone.
 use Rattle.std.proofs.Common.{◌≡◌, ℕ, true, false, List, [], ◌∷◌, Some, refl, ap, ◌∙◌, subst, arith}
 use Rattle.std.proofs.lemmas.Bool.{and_parts}
+use Rattle.std.proofs.lemmas.Option.{same_Some, cond_some}
 use Rattle.vocabulary.specs.Types.{plain_kind}
 use Rattle.vocabulary.specs.declared.types.DType.{DType}
 use Rattle.vocabulary.specs.declared.types.Kind.{Kind}
@@ -13,7 +14,7 @@ use Rattle.meaning.specs.Trees.{Fn, root, literal, get_item, cast, compare, comp
 use Rattle.meaning.specs.Trees.{Exprs, nil, cons}
 use Rattle.meaning.specs.Typing.{is_number, item_type, compare_type, compute_type, between_type, cast_type, fn_type}
 use Rattle.meaning.specs.Typing.{typed, typed_all}
-use Rattle.meaning.proofs.CaseSplits.{none_some, false_true, some_same, and_then_some, cond_some, of_none_is}
+use Rattle.meaning.proofs.CaseSplits.{none_some, false_true, and_then_some, of_none_is}
 use Rattle.meaning.proofs.CaseSplits.{of_none_some, of_one_some, of_two_some, of_three_some}
 
 -- a plain kind is no Row
@@ -38,18 +39,18 @@ typed_nil m ss nil p = refl
 typed_nil m ss (cons e es) p =
     let (t, a, p1) = and_then_some (typed m ss e) _ [] p in
     let (ts, b, p2) = and_then_some (typed_all m ss es) _ [] p1 in
-    let i = some_same p2 in
-    let z : ◌≡◌ {A = ℕ} 0 1 = cc in absurd (omega arith)
+    let i = same_Some _ _ p2 in
+    absurd (grind arith)
 
 -- children of some types are a first child and others
 pub typed_cons : (m : Meaning) (ss : Schemas) (es : Exprs) (t : DType) (ts : List DType)
     → typed_all m ss es ≡ Some (t ∷ ts)
     → (e : Expr) × (ds : Exprs) × (es ≡ cons e ds) × (typed m ss e ≡ Some t) × (typed_all m ss ds ≡ Some ts)
-typed_cons m ss nil t ts p = let z : ◌≡◌ {A = ℕ} 0 1 = cc in absurd (omega arith)
+typed_cons m ss nil t ts p = absurd (grind arith)
 typed_cons m ss (cons e es) t ts p =
     let (u, a, p1) = and_then_some (typed m ss e) _ (t ∷ ts) p in
     let (us, b, p2) = and_then_some (typed_all m ss es) _ (t ∷ ts) p1 in
-    let i = some_same p2 in
+    let i = same_Some _ _ p2 in
     (e, es, refl, a ∙ ap Some (cons_head i), b ∙ ap Some (cons_tail i))
   where
     cons_head : {u t : DType} {us ts : List DType} → u ∷ us ≡ t ∷ ts → u ≡ t

@@ -1,5 +1,6 @@
 -- Rules, rounds and optimizing keep the type, and the value wherever there is one.
 use Rattle.std.proofs.Common.{◌≡◌, ℕ, zero, suc, List, Some, Option, refl, subst}
+use Rattle.std.proofs.lemmas.Option.{same_Some}
 use Rattle.vocabulary.specs.declared.types.DType.{DType}
 use Rattle.meaning.specs.Columns.{Schemas}
 use Rattle.meaning.specs.Evaluating.{Env, EnvFits, eval, evals}
@@ -14,7 +15,7 @@ use Rattle.meaning.specs.Trees.{root, literal, get_item, cast, compare, compute,
 use Rattle.meaning.specs.Trees.{Exprs, nil, cons}
 use Rattle.meaning.specs.Typing.{typed, typed_all}
 use Rattle.meaning.specs.Values.{Value}
-use Rattle.meaning.proofs.CaseSplits.{none_some, some_same, and_then_some, then_value}
+use Rattle.meaning.proofs.CaseSplits.{none_some, and_then_some, then_value}
 use Rattle.meaning.proofs.HostRules.{host_rule_refines}
 use Rattle.meaning.proofs.LogicRules.{logic_refines}
 use Rattle.meaning.proofs.NullComparisons.{compare_refines}
@@ -75,7 +76,7 @@ module _ (m : Meaning) (law : Lawful m) (ss : Schemas) (r : Env) (ok : EnvFits s
       subst
       (λ (z : Exprs).
       (typed_all m ss z ≡ Some ts) × ((vs : List Value) → evals m r nil ≡ value vs → evals m r z ≡ value vs))
-      (some_same h) (p, λ vs q. q)
+      (same_Some _ _ h) (p, λ vs q. q)
   all_improve f i (cons e es) ds ts p h =
       let (d, a, h1) = and_then_some (f e) _ ds h in
       let (rest, b, h2) = and_then_some (map_all f es) _ ds h1 in
@@ -86,7 +87,7 @@ module _ (m : Meaning) (law : Lawful m) (ss : Schemas) (r : Env) (ok : EnvFits s
       subst
       (λ (z : Exprs).
       (typed_all m ss z ≡ Some ts) × ((vs : List Value) → evals m r (cons e es) ≡ value vs → evals m r z ≡ value vs))
-      (some_same h2) (
+      (same_Some _ _ h2) (
         simp (x.0, y.0) p2,
         λ vs q.
             let (va, qa, q1) = then_value (eval m r e) _ vs q in
@@ -103,7 +104,7 @@ module _ (m : Meaning) (law : Lawful m) (ss : Schemas) (r : Env) (ok : EnvFits s
       let (tb, pb, p2) = and_then_some (typed m ss b) _ t p1 in
       let x = i a c ta pa ha in
       let y = i b g tb pb hb in
-      subst (λ (z : Expr). Refines m ss r t (logic o a b) z) (some_same h2) (
+      subst (λ (z : Expr). Refines m ss r t (logic o a b) z) (same_Some _ _ h2) (
         simp (x.0, y.0) p2,
         λ v q.
             let (va, qa, q1) = then_value (eval m r a) _ v q in
@@ -114,7 +115,7 @@ module _ (m : Meaning) (law : Lawful m) (ss : Schemas) (r : Env) (ok : EnvFits s
       let (ds, hs, h1) = and_then_some (map_all f es) _ d h in
       let (ts, ps, p1) = and_then_some (typed_all m ss es) _ t p in
       let x = all_improve f i es ds ts ps hs in
-      subst (λ (z : Expr). Refines m ss r t (node g es) z) (some_same h1)
+      subst (λ (z : Expr). Refines m ss r t (node g es) z) (same_Some _ _ h1)
       (simp x.0 p1, λ v q. let (vs, qs, q1) = then_value (evals m r es) _ v q in simp (x.1 vs qs) q1)
 
   optimize_improves : (k : ℕ) → Improves (optimize m ss k)

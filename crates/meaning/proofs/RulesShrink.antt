@@ -2,6 +2,7 @@
 use Rattle.std.proofs.Common.{◌≡◌, ℕ, zero, suc, ◌+◌, ◌≤◌, Bool, true, false, cond, not, List, [], ◌∷◌, Some, None}
 use Rattle.std.proofs.Common.{Option, sym, refl, ap, ◌∙◌, subst, arith}
 use Rattle.std.proofs.lemmas.Bool.{and_parts, eqb-false, or_parts, not-true}
+use Rattle.std.proofs.lemmas.Option.{same_Some}
 use Rattle.vocabulary.specs.declared.operators.Connective.{Connective}
 use Rattle.vocabulary.specs.declared.types.DType.{DType}
 use Rattle.meaning.specs.Columns.{Schemas}
@@ -16,7 +17,7 @@ use Rattle.meaning.specs.Trees.{root, literal, get_item, cast, compare, compute,
 use Rattle.meaning.specs.Trees.{Exprs, nil, cons, nth_child, size, sizes}
 use Rattle.meaning.specs.Typing.{typed, typed_all}
 use Rattle.meaning.specs.Values.{Value, null, bool, boolean}
-use Rattle.meaning.proofs.CaseSplits.{none_some, some_same, and_then_some, mapped_some}
+use Rattle.meaning.proofs.CaseSplits.{none_some, and_then_some, mapped_some}
 use Rattle.meaning.proofs.RoundsOfRules.{rounds_relate}
 
 -- the number at a place, 0 outside
@@ -76,22 +77,22 @@ sum_weights (cons e es) = ap (λ (z : ℕ). size e + z) (sum_weights es)
 
 nth_weight : (es : Exprs) (i : ℕ) (d : Expr) → nth_child es i ≡ Some d → size d ≡ weight_at (weights es) i
 nth_weight nil i d h = none_some d h
-nth_weight (cons e es) zero d h = ap size (sym (some_same h))
+nth_weight (cons e es) zero d h = ap size (sym (same_Some _ _ h))
 nth_weight (cons e es) (suc i) d h = nth_weight es i d h
 
 -- the sizes of picked children
 pick_weights : (es : Exprs) (is : List ℕ) (ds : Exprs) → pick_children es is ≡ Some ds
     → sizes ds ≡ sum_at (weights es) is
-pick_weights es [] ds h = ap sizes (sym (some_same h))
+pick_weights es [] ds h = ap sizes (sym (same_Some _ _ h))
 pick_weights es (i ∷ is) ds h =
     let (d, a, h1) = and_then_some (nth_child es i) _ ds h in
     let (rest, b, h2) = and_then_some (pick_children es is) _ ds h1 in
-    ap sizes (sym (some_same h2)) ∙ omega (arith, nth_weight es i d a, pick_weights es is rest b)
+    ap sizes (sym (same_Some _ _ h2)) ∙ omega (arith, nth_weight es i d a, pick_weights es is rest b)
 
 -- a child is no larger than all
 nth_size : (es : Exprs) (i : ℕ) (d : Expr) → nth_child es i ≡ Some d → size d ≤ sizes es
 nth_size nil i d h = none_some d h
-nth_size (cons e es) zero d h = subst (λ (z : Expr). size z ≤ size e + sizes es) (some_same h) (omega arith)
+nth_size (cons e es) zero d h = subst (λ (z : Expr). size z ≤ size e + sizes es) (same_Some _ _ h) (omega arith)
 nth_size (cons e es) (suc i) d h = omega (arith, nth_size es i d h)
 
 -- an operand at the nullability of its node is at most one node larger
@@ -110,23 +111,23 @@ drop_size false o n k e = widen_size n k e (literal_of e)
 logic_size : (o : Connective) (n ka kb : Bool) (a b d : Expr) (s t : Seen) → simplify_logic o n ka kb a b s t ≡ Some d
     → size d ≤ suc (size a + size b)
 logic_size o n ka kb a b d (sees_truth x) t h =
-    subst (λ (z : Expr). size z ≤ suc (size a + size b)) (some_same h)
+    subst (λ (z : Expr). size z ≤ suc (size a + size b)) (same_Some _ _ h)
     (omega (arith, drop_size (decides o x) o n kb b))
 logic_size o n ka kb a b d sees_null (sees_truth y) h =
-    subst (λ (z : Expr). size z ≤ suc (size a + size b)) (some_same h)
+    subst (λ (z : Expr). size z ≤ suc (size a + size b)) (same_Some _ _ h)
     (omega (arith, drop_size (decides o y) o n ka a))
 logic_size o n ka kb a b d sees_null sees_null h =
-    subst (λ (z : Expr). size z ≤ suc (size a + size b)) (some_same h)
+    subst (λ (z : Expr). size z ≤ suc (size a + size b)) (same_Some _ _ h)
     (omega (arith, widen_size n ka a (literal_of a)))
 logic_size o n ka kb a b d sees_null sees_other h = none_some d h
 logic_size o n ka kb a b d sees_other (sees_truth y) h =
-    subst (λ (z : Expr). size z ≤ suc (size a + size b)) (some_same h)
+    subst (λ (z : Expr). size z ≤ suc (size a + size b)) (same_Some _ _ h)
     (omega (arith, drop_size (decides o y) o n ka a))
 logic_size o n ka kb a b d sees_other sees_null h = none_some d h
 logic_size o n ka kb a b d sees_other sees_other h = none_some d h
 
 null_size : (b : Bool) (d : Expr) (n : ℕ) → cond b (Some (lit (boolean true) null)) None ≡ Some d → size d ≤ suc n
-null_size true d n h = subst (λ (z : Expr). size z ≤ suc n) (some_same h) (omega arith)
+null_size true d n h = subst (λ (z : Expr). size z ≤ suc n) (same_Some _ _ h) (omega arith)
 null_size false d n h = none_some d h
 
 -- an answer that has each child at most once is no larger than the call
@@ -134,7 +135,7 @@ answer_size : (t : DType) (es : Exprs) (d : Expr) (x : Answer) → answer_once x
     → size d ≤ suc (sizes es)
 answer_size t es d nothing p h = none_some d h
 answer_size t es d (child i) p h = omega (arith, nth_size es i d h)
-answer_size t es d (constant v) p h = subst (λ (z : Expr). size z ≤ suc (sizes es)) (some_same h) (omega arith)
+answer_size t es d (constant v) p h = subst (λ (z : Expr). size z ≤ suc (sizes es)) (same_Some _ _ h) (omega arith)
 answer_size t es d (other c is) p h =
     let (ds, a, e) = mapped_some (node (call c)) (pick_children es is) d h in
     subst (λ (z : Expr). size z ≤ suc (sizes es)) e
@@ -162,11 +163,12 @@ module _ (m : Meaning) (law : Lawful m) (ss : Schemas) where
 
   all_size : (f : Expr → Option Expr) → ((e d : Expr) → f e ≡ Some d → size d ≤ size e) → (es ds : Exprs)
       → map_all f es ≡ Some ds → sizes ds ≤ sizes es
-  all_size f g nil ds h = subst (λ (z : Exprs). sizes z ≤ 0) (some_same h) (omega arith)
+  all_size f g nil ds h = subst (λ (z : Exprs). sizes z ≤ 0) (same_Some _ _ h) (omega arith)
   all_size f g (cons e es) ds h =
       let (d, a, h1) = and_then_some (f e) _ ds h in
       let (rest, b, h2) = and_then_some (map_all f es) _ ds h1 in
-      subst (λ (z : Exprs). sizes z ≤ size e + sizes es) (some_same h2) (omega (arith, g e d a, all_size f g es rest b))
+      subst (λ (z : Exprs). sizes z ≤ size e + sizes es) (same_Some _ _ h2)
+      (omega (arith, g e d a, all_size f g es rest b))
 
   -- a node over answers that are no larger
   children_size : (f : Expr → Option Expr) → ((e d : Expr) → f e ≡ Some d → size d ≤ size e) → (e d : Expr)
@@ -174,10 +176,10 @@ module _ (m : Meaning) (law : Lawful m) (ss : Schemas) where
   children_size f g (logic o a b) d h =
       let (c, ha, h1) = and_then_some (f a) _ d h in
       let (e, hb, h2) = and_then_some (f b) _ d h1 in
-      subst (λ (z : Expr). size z ≤ suc (size a + size b)) (some_same h2) (omega (arith, g a c ha, g b e hb))
+      subst (λ (z : Expr). size z ≤ suc (size a + size b)) (same_Some _ _ h2) (omega (arith, g a c ha, g b e hb))
   children_size f g (node k es) d h =
       let (ds, hs, h1) = and_then_some (map_all f es) _ d h in
-      subst (λ (z : Expr). size z ≤ suc (sizes es)) (some_same h1) (omega (arith, all_size f g es ds hs))
+      subst (λ (z : Expr). size z ≤ suc (sizes es)) (same_Some _ _ h1) (omega (arith, all_size f g es ds hs))
 
   -- what optimizing gives is no larger
   pub optimize_size : (k : ℕ) (e d : Expr) → optimize m ss k e ≡ Some d → size d ≤ size e

@@ -2,6 +2,7 @@
 use Rattle.std.proofs.Common.{◌≡◌, ℕ, true, List, Some, sym, refl, subst, arith}
 use Rattle.std.proofs.lemmas.Bool.{and_parts, and_from}
 use Rattle.std.proofs.lemmas.Bool.Decides.{nat_tests}
+use Rattle.std.proofs.lemmas.Option.{same_Some, cond_some}
 use Rattle.vocabulary.specs.declared.types.DType.{DType}
 use Rattle.vocabulary.specs.declared.types.Kind.{Kind}
 use Rattle.vocabulary.specs.declared.types.Kind.TheVariants as kind
@@ -16,7 +17,7 @@ use Rattle.meaning.specs.Trees.{Exprs, nil, cons}
 use Rattle.meaning.specs.Typing.{item_type, compare_type, compute_type, between_type, cast_type, fn_type, typed}
 use Rattle.meaning.specs.Typing.{typed_all}
 use Rattle.meaning.specs.Values.{Value, null, bool, signed, unsigned, text, ext, whole, fits, all_fit}
-use Rattle.meaning.proofs.CaseSplits.{fault_value, some_same, value_same, and_then_some, cond_some, then_value}
+use Rattle.meaning.proofs.CaseSplits.{fault_value, value_same, and_then_some, then_value}
 use Rattle.meaning.proofs.CaseSplits.{of_none_is, of_none_some, of_one_some, of_two_some, of_three_some}
 use Rattle.meaning.proofs.FitsTypes.{one_kind, compare_fits, logic_fits, compute_fits, between_fits, cast_fits}
 use Rattle.meaning.proofs.FitsTypes.{fit_nil, fit_one, fit_two, fit_three}
@@ -92,11 +93,11 @@ mutual
   pub all_values_fit : (m : Meaning) → Lawful m → (ss : Schemas) (r : Env) → EnvFits ss r
       → (es : Exprs) (ts : List DType) (vs : List Value) → typed_all m ss es ≡ Some ts → evals m r es ≡ value vs
       → all_fit vs ts ≡ true
-  all_values_fit m law ss r ok nil ts vs p q = rw (← (some_same p), ← (value_same q)) refl
+  all_values_fit m law ss r ok nil ts vs p q = rw (← (same_Some _ _ p), ← (value_same q)) refl
   all_values_fit m law ss r ok (cons e es) ts vs p q =
       let (ta, pa, p1) = and_then_some (typed m ss e) _ ts p in
       let (tb, pb, p2) = and_then_some (typed_all m ss es) _ ts p1 in
       let (va, qa, q1) = then_value (eval m r e) _ vs q in
       let (vb, qb, q2) = then_value (evals m r es) _ vs q1 in
-      rw (← (some_same p2), ← (value_same q2))
+      rw (← (same_Some _ _ p2), ← (value_same q2))
       (and_from _ _ (values_fit m law ss r ok e ta va pa qa) (all_values_fit m law ss r ok es tb vb pb qb))

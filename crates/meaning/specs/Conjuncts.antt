@@ -19,7 +19,8 @@ count_conjuncts (node f es) = 1
 -- the first conjunct that g answers for, replaced by that answer
 abbrev pub replace_first : (Expr → Option Expr) → Expr → Option Expr
 replace_first g (logic And a b) =
-    option_or (option_map (λ c. logic And c b) (replace_first g a)) (option_map (λ c. logic And a c) (replace_first g b))
+    option_or (option_map (λ c. logic And c b) (replace_first g a))
+    (option_map (λ c. logic And a c) (replace_first g b))
 replace_first g (logic Or a b) = g (logic Or a b)
 replace_first g (node f es) = g (node f es)
 

@@ -1,13 +1,12 @@
 -- What a host is handed and what it answers, from the code's types to the meaning's.
 use Rattle.std.specs.Prelude.{ℕ, List, [], map, take, drop, Option}
 use Rattle.std.specs.Option.{option_map}
+use Rattle.std.specs.declared.convert.Infallible.{Infallible}
 use Rattle.vocabulary.specs.declared.values.Span.{Span}
 use Rattle.vocabulary.specs.declared.values.Text.{Text}
 use Rattle.vocabulary.specs.declared.values.Text.TheVariants.{Arena, Row}
 use Rattle.vocabulary.specs.declared.values.Value.{Value as Placed}
 use Rattle.vocabulary.specs.declared.values.Value.TheVariants as placed
-use Rattle.meaning.specs.declared.answers.Constant.{Constant as CodeConstant}
-use Rattle.meaning.specs.declared.answers.Constant.TheVariants as made
 use Rattle.meaning.specs.declared.answers.Reply.{Reply as CodeReply}
 use Rattle.meaning.specs.declared.answers.Reply.TheVariants as replied
 use Rattle.meaning.specs.declared.answers.RuleAnswer.{RuleAnswer}
@@ -41,13 +40,14 @@ read_all arena row vs = map (read arena row) vs
 abbrev pub read_literals : List ℕ → List (Option (Placed Text)) → List (Option Value)
 read_literals arena ls = map (option_map (read arena [])) ls
 
--- the constant that a host made
-abbrev pub constant_of : CodeConstant → Constant
-constant_of made.Null = Constant.null
-constant_of (made.Bool b) = Constant.bool b
-constant_of (made.I64 z) = Constant.signed z
-constant_of (made.U64 n) = Constant.unsigned n
-constant_of (made.Extension e z) = Constant.ext e z
+-- the constant that a host made: a value that has no text
+abbrev pub constant_of : Placed Infallible → Constant
+constant_of placed.Null = Constant.null
+constant_of (placed.Bool b) = Constant.bool b
+constant_of (placed.I64 z) = Constant.signed z
+constant_of (placed.U64 n) = Constant.unsigned n
+constant_of (placed.Utf8 x) = elim x [ ]
+constant_of (placed.Extension e z) = Constant.ext e z
 
 -- what a host replied
 abbrev pub reply_of : CodeReply → Reply

@@ -50,4 +50,5 @@ ResultsAreExact =
     → Exact (nat_lt (a + b) (2 ^ 64)) (unsigned (a + b)) (computes Add (unsigned a) (unsigned b))
     × Exact (nat_lt (a * b) (2 ^ 64)) (unsigned (a * b)) (computes Mul (unsigned a) (unsigned b))
     × (nat_lt a b ≡ true → computes Sub (unsigned a) (unsigned b) ≡ fault arithmetic)
-    × (nat_lt a b ≡ false → Exact (nat_lt (a - b) (2 ^ 64)) (unsigned (a - b)) (computes Sub (unsigned a) (unsigned b))))
+    × (nat_lt a b ≡ false
+    → Exact (nat_lt (a - b) (2 ^ 64)) (unsigned (a - b)) (computes Sub (unsigned a) (unsigned b))))

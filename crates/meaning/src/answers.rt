@@ -2,19 +2,12 @@ ghost use Rattle.std.specs.Prelude.{◌≡◌, take};
 ghost use Rattle.meaning.specs.Hosts.{Answer};
 ghost use Rattle.meaning.specs.HostCode.{constant_of, answer_of};
 
+use std::convert::Infallible;
 use vocabulary::few_bytes::FewBytes;
+use vocabulary::values::Value;
 
 /// A value that a host can make of itself: null, or any that is no text.
-// Kept beside `Value`: one type for both, with an empty type in place of the text, is no plainer.
-#[derive(Clone, Copy)]
-pub enum Constant {
-    Null,
-    Bool(bool),
-    I64(i64),
-    U64(u64),
-    /// The number of the Extension, and its value.
-    Extension(u8, i64),
-}
+pub type Constant = Value<Infallible>;
 
 /// What a function of a host replies to its arguments.
 #[derive(Clone, Copy)]

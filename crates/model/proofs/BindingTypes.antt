@@ -28,7 +28,7 @@ use Rattle.model.specs.LawsOfRefusedBinding.{TypesRefuseNoTreeThatBinds}
 use Rattle.model.proofs.Children.{pair}
 use Rattle.model.proofs.Numbers.{shape_kids, shown}
 use Rattle.model.proofs.UnboundNumbers.{seen_among}
-use Rattle.model.proofs.BindingCauses.{binding_refuses_for_causes}
+use Rattle.model.proofs.BindingCauses.{binding_refuses_for_causes, refused_bindings_change_nothing}
 
 -- the children of a counted head are those of its shape
 shape_below : (n : ℕ) (h : Head) (ks : List ℕ) → head_counts any_host h (length ks) ≡ true → Below n ks
@@ -100,20 +100,19 @@ tree_none m ss u fine q n j (under {k = k} x a w h) e =
 module _ (m : Meaning) (u : UnboundStore) (fine : SoundUnbound u) (s : Store) (n q work k : ℕ) where
   of_types : (r : Refusal) → r ≡ Binding (DoesNotBind k) → RefusedBinding m u n q work s r
       → typed m s.schemas (tree_for q u n) ≡ None
-  of_types r e (no_node l) = let z : ◌≡◌ {A = ℕ} 0 1 = cc in absurd (omega arith)
-  of_types r e (no_schema l h) = let z : ◌≡◌ {A = ℕ} 0 1 = cc in absurd (omega arith)
-  of_types r e (work_short l h w) = let z : ◌≡◌ {A = ℕ} 0 1 = cc in absurd (omega arith)
-  of_types r e (at_node l h w j x stands found (Cause.no_code c)) =
-      let z : ◌≡◌ {A = ℕ} 0 1 = cc in absurd (omega arith)
-  of_types r e (at_node l h w j x stands found (Cause.wrong_count c)) =
-      let z : ◌≡◌ {A = ℕ} 0 1 = cc in absurd (omega arith)
+  of_types r e (no_node l) = absurd (grind arith)
+  of_types r e (no_schema l h) = absurd (grind arith)
+  of_types r e (work_short l h w) = absurd (grind arith)
+  of_types r e (at_node l h w j x stands found (Cause.no_code c)) = absurd (grind arith)
+  of_types r e (at_node l h w j x stands found (Cause.wrong_count c)) = absurd (grind arith)
   of_types r e (at_node l h w j x stands found (Cause.unbindable c)) =
       tree_none m s.schemas u fine q n j stands c
-  of_types r e (at_node l h w j x stands found (Cause.records_full c)) =
-      let z : ◌≡◌ {A = ℕ} 0 1 = cc in absurd (omega arith)
-  of_types r e (at_node l h w j x stands found (Cause.text_full later g c)) =
-      let z : ◌≡◌ {A = ℕ} 0 1 = cc in absurd (omega arith)
+  of_types r e (at_node l h w j x stands found (Cause.records_full c)) = absurd (grind arith)
+  of_types r e (at_node l h w j x stands found (Cause.text_full later g c)) = absurd (grind arith)
 
 pub types_refuse_no_tree_that_binds : TypesRefuseNoTreeThatBinds
 types_refuse_no_tree_that_binds m u fine s sound n q work k e =
     of_types m u fine s n q work k _ refl (binding_refuses_for_causes m u fine s sound n q work _ e)
+
+pub ruleset binding_refuses =
+    (refused_bindings_change_nothing, binding_refuses_for_causes, types_refuse_no_tree_that_binds)

@@ -16,7 +16,7 @@ use Rattle.model.specs.Soundness.{Below, Sound}
 use Rattle.model.proofs.Numbers.{node_below, node_there}
 
 pub err_ok {ℓ} : {A E : Type 0} {B : Type ℓ} (e : E) (a : A) → ◌≡◌ {A = Result A E} (Err e) (Ok a) → B
-err_ok e a p = let z : ◌≡◌ {A = ℕ} 0 1 = cc in absurd (omega arith)
+err_ok e a p = absurd (grind arith)
 
 pub ok_same : {A E : Type 0} {a b : A} → ◌≡◌ {A = Result A E} (Ok a) (Ok b) → a ≡ b
 ok_same p = cc

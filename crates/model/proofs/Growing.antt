@@ -4,13 +4,13 @@ use Rattle.std.proofs.Common.{take, drop, replicate, Some, sym, refl, ap, ◌∙
 use Rattle.std.proofs.Common.{length-drop, length-take}
 use Rattle.std.proofs.lemmas.List.{take_at, length-take-le}
 use Rattle.std.proofs.lemmas.Bool.{eqb-true, eqb-false, leb-true, and_parts}
+use Rattle.std.proofs.lemmas.Option.{same_Some}
 use Rattle.vocabulary.specs.Nodes.{BoundNode as Node}
 use Rattle.vocabulary.specs.Nodes.{padded, text_of}
 use Rattle.meaning.specs.Hosts.{Meaning}
 use Rattle.meaning.specs.Trees.{Fn, root, literal, get_item, cast, compare, compute, between, call}
 use Rattle.meaning.specs.Trees.{depth, size}
 use Rattle.meaning.specs.Typing.{typed}
-use Rattle.meaning.proofs.CaseSplits.{some_same}
 use Rattle.model.specs.Stores.{Store, node_among, node_at, grown}
 use Rattle.model.specs.Shapes.{Head, join, over, head, kids, shape, shaped, shape_tree, tree_among, tree}
 use Rattle.model.specs.Making.{Plan, named, fn_counts, head_counts, deepest, total_size}
@@ -166,7 +166,7 @@ module _ (m : Meaning) (s : Store) (sound : Sound m s) (p : Plan) (honest : Hone
           → SoundNode m (grown x p.adds s) n y
       go n y e true h =
           let i = eqb-true n (length s.nodes) h in
-          let j : x ≡ y = some_same (sym (node_newest x s.nodes n i) ∙ e) in
+          let j : x ≡ y = same_Some _ _ (sym (node_newest x s.nodes n i) ∙ e) in
           subst (SoundNode m (grown x p.adds s) n) j
           (subst (λ (k : ℕ). SoundNode m (grown x p.adds s) k x) (sym i) newest_sound)
       go n y e false h =

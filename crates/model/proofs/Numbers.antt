@@ -2,10 +2,11 @@
 use Rattle.std.proofs.Common.{◌≡◌, ℕ, suc, ◌<◌, ◌≤◌, Bool, true, false, cond, eqb, List, [], ◌∷◌, length, Some, None}
 use Rattle.std.proofs.Common.{sym, refl, ap, ◌∙◌, arith}
 use Rattle.std.proofs.lemmas.Bool.{eqb-true, eqb-false, eq-eqb, ne_eqb}
+use Rattle.std.proofs.lemmas.Option.{same_Some}
 use Rattle.vocabulary.specs.declared.nodes.Node.{Node as Record}
 use Rattle.vocabulary.specs.Nodes.{BoundNode as Node}
 use Rattle.meaning.specs.Trees.{Expr, node}
-use Rattle.meaning.proofs.CaseSplits.{none_some, some_same}
+use Rattle.meaning.proofs.CaseSplits.{none_some}
 use Rattle.model.specs.Stores.{node_among}
 use Rattle.model.specs.Shapes.{Shape, both, on, shape, trees_by, shape_tree, tree_among}
 use Rattle.model.specs.Soundness.{Below}
@@ -14,10 +15,6 @@ use Rattle.model.specs.Soundness.{Below}
 abbrev pub shape_kids : Shape → List ℕ
 shape_kids (both o i j) = i ∷ j ∷ []
 shape_kids (on f ks) = ks
-
-pub below_mono : (ks : List ℕ) (a b : ℕ) → a ≤ b → Below a ks → Below b ks
-below_mono [] a b h w = tt
-below_mono (k ∷ ks) a b h w = (omega (arith, w.0), below_mono ks a b h w.1)
 
 pub node_older : {T : Type 0} (x : Record T) (xs : List (Record T)) (n : ℕ) → n < length xs
     → node_among (x ∷ xs) n ≡ node_among xs n
@@ -115,7 +112,7 @@ shown text (y ∷ xs) n x e w = go (shown text xs n x) (eqb n (length xs)) refl 
         → tree_among text xs n ≡ shape_tree (tree_among text xs) (shape text x))
         → (b : Bool) → eqb n (length xs) ≡ b → cond b (Some y) (node_among xs n) ≡ Some x
         → tree_among text (y ∷ xs) n ≡ shape_tree (tree_among text (y ∷ xs)) (shape text x)
-    go f true i j = at_newest (eqb-true n (length xs) i) (some_same j)
+    go f true i j = at_newest (eqb-true n (length xs) i) (same_Some _ _ j)
     go f false i j =
         let l : n < length xs = node_below xs n x j in
         tree_older text y xs n l ∙ f j w

@@ -1,8 +1,9 @@
 -- What a plan that is granted has passed, and that plans say what they record.
-use Rattle.std.proofs.Common.{◌≡◌, ℕ, suc, ◌+◌, ◌<◌, ◌≤◌, Bool, true, false, cond, ◌&&◌, ltb, leb, List, [], ◌∷◌}
+use Rattle.std.proofs.Common.{◌≡◌, ℕ, suc, ◌+◌, ◌<◌, ◌≤◌, Bool, true, false, cond, ◌&&◌, ltb, leb, List, []}
 use Rattle.std.proofs.Common.{◌++◌, length, Some, None, Ok, Err, Option, Result, sym, refl, ap, subst, append-nil}
 use Rattle.std.proofs.Common.{arith, length-append}
 use Rattle.std.proofs.lemmas.Bool.{leb-true, ltb-true, and_parts}
+use Rattle.std.proofs.lemmas.Option.{same_Some, cond_some}
 use Rattle.vocabulary.specs.declared.nodes.Function.{Function}
 use Rattle.vocabulary.specs.declared.nodes.Function.TheVariants.{Root, Literal, GetItem, Cast, Binary, Between, Host}
 use Rattle.vocabulary.specs.Nodes.{BoundNode as Node}
@@ -15,12 +16,11 @@ use Rattle.vocabulary.specs.Types.{same_kind, plain_kind, carried}
 use Rattle.meaning.specs.Columns.{Schemas}
 use Rattle.meaning.specs.HostCode.{read}
 use Rattle.meaning.specs.Hosts.{Meaning}
-use Rattle.meaning.specs.Lists.{of_none}
 use Rattle.meaning.specs.Trees.{Fn}
 use Rattle.meaning.specs.Typing.{fn_type}
 use Rattle.meaning.specs.Values.{Value, null, bool, signed, unsigned, text, ext, whole, fits}
 use Rattle.meaning.specs.Comparing.{value_bytes}
-use Rattle.meaning.proofs.CaseSplits.{none_some, some_same, cond_some, false_true}
+use Rattle.meaning.proofs.CaseSplits.{false_true, of_none_some}
 use Rattle.model.specs.Stores.{Store}
 use Rattle.model.specs.Shapes.{over, head_of}
 use Rattle.model.specs.Wanted.{New, root, literal, get_item, cast, binary, between, host}
@@ -104,22 +104,18 @@ no_rows r kind.Utf8 a b = a
 no_rows r (kind.Extension e) a b = a
 no_rows r (kind.Row q) a b = b
 
-none_some_of : {A B : Type 0} (r : Option B) (ts : List A) (b : B) → of_none None r ts ≡ Some b → r ≡ Some b
-none_some_of r [] b e = e
-none_some_of r (t ∷ ts) b e = none_some b e
-
 root_typed : (m : Meaning) (ss : Schemas) (r : ℕ) (ts : List DType) (t : DType)
     → fn_type m ss (Fn.root r) ts ≡ Some t → carried t.kind ≡ r
 unfolding fn_type
 root_typed m ss r ts t e =
-    let h = none_some_of (Some (record { kind = kind.Row r; nullable = false })) ts t e in
-    ap (λ (z : DType). carried z.kind) (sym (some_same h))
+    let (_, h) = of_none_some (Some (record { kind = kind.Row r; nullable = false })) ts t e in
+    ap (λ (z : DType). carried z.kind) (sym (same_Some _ _ h))
 
 row_typed : (m : Meaning) (ss : Schemas) (u : DType) (r : ℕ) (ts : List DType) (t : DType)
     → fn_type m ss (Fn.literal u (whole r)) ts ≡ Some t → false ≡ true
 unfolding fn_type
 row_typed m ss u r ts t e =
-    let h = none_some_of (cond (fits (whole r) u && plain_kind u.kind) (Some u) None) ts t e in
+    let (_, h) = of_none_some (cond (fits (whole r) u && plain_kind u.kind) (Some u) None) ts t e in
     let (a, same) = cond_some (fits (whole r) u && plain_kind u.kind) u t h in
     let (b, c) = and_parts (fits (whole r) u) (plain_kind u.kind) a in
     no_rows r u.kind b c

@@ -3,10 +3,10 @@ use Rattle.std.proofs.Common.{◌≡◌, ℕ, suc, ◌<◌, ◌≤◌, Bool, tru
 use Rattle.std.proofs.Common.{sym, refl, ap, ◌∙◌, subst, arith, length-append}
 use lib.ListN.{length-map}
 use Rattle.std.proofs.lemmas.Bool.{eqb-true, eqb-false}
+use Rattle.std.proofs.lemmas.Option.{same_Some}
 use Rattle.vocabulary.specs.Nodes.{BoundNode as Node}
 use Rattle.vocabulary.specs.Nodes.{padded, text_of}
 use Rattle.meaning.specs.Trees.{depth, size}
-use Rattle.meaning.proofs.CaseSplits.{some_same}
 use Rattle.model.specs.Shapes.{Head, head_of, shape, shaped, shape_tree, tree_among, kids}
 use Rattle.model.specs.Making.{Plan, named, head_counts, deepest, total_size}
 use Rattle.model.specs.Soundness.{Below, EndsWithin}
@@ -161,7 +161,7 @@ module _ (u : UnboundStore) (sound : SoundUnbound u) (p : Plan) (honest : Honest
           → SoundUnboundNode q (unbound_grown (untyped x) p.adds u) n y
       go q n y e true h =
           let i = eqb-true n (length u.nodes) h in
-          let j : untyped x ≡ y = some_same (sym (node_newest (untyped x) u.nodes n i) ∙ e) in
+          let j : untyped x ≡ y = same_Some _ _ (sym (node_newest (untyped x) u.nodes n i) ∙ e) in
           subst (SoundUnboundNode q (unbound_grown (untyped x) p.adds u) n) j
           (subst (λ (k : ℕ). SoundUnboundNode q (unbound_grown (untyped x) p.adds u) k (untyped x)) (sym i)
           (newest_is_sound q))

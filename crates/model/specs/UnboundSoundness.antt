@@ -1,4 +1,4 @@
--- Sound unbound arena: each record says what its tree is, and all lies within its room.
+-- Sound unbound arenas: each record says what its tree is, and all lies within its room.
 use Rattle.std.specs.Prelude.{◌≡◌, ℕ, ◌≤◌, true, length, Some}
 use Rattle.vocabulary.specs.Nodes.{padded, text_of}
 use Rattle.meaning.specs.Trees.{depth, size}

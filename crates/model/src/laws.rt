@@ -1,4 +1,5 @@
 //! The laws of making, rebuilding and binding, and of unbound trees.
+// A law names its lemma on its function, where the check closes it with that alone; the others have an answer.
 ghost use Rattle.model.specs.LawsOfMaking.{EmptyIsSound, StepsKeepSound, StepsOnlyAdd, NodesStay};
 ghost use Rattle.model.specs.LawsOfMaking.{TreesByShapes, RecordsLieForward, RefusalsChangeNothing};
 ghost use Rattle.model.specs.LawsOfMaking.{MadeAsAsked, RebuiltOverOthers};
@@ -24,16 +25,19 @@ pub fn nodes_stay()
 {}
 
 /// A refusal leaves the store as it was.
+#[tactic(auto, using(crate::proofs::Adding::refusals_change_nothing))]
 pub fn refusals_change_nothing()
     ensures { RefusalsChangeNothing }
 {}
 
 /// What is made has the next number, and its tree is the function asked for over the children's trees.
+#[tactic(auto, using(crate::proofs::Granting::made_as_asked))]
 pub fn made_as_asked()
     ensures { MadeAsAsked }
 {}
 
 /// What is rebuilt is the old function over the other children's trees.
+#[tactic(auto, using(crate::proofs::Regranting::rebuilt_over_others))]
 pub fn rebuilt_over_others()
     ensures { RebuiltOverOthers }
 {}
@@ -44,11 +48,13 @@ pub fn trees_by_shapes()
 {}
 
 /// The record of a number lies at that place where the nodes lie oldest first.
+#[tactic(auto, using(crate::proofs::Forward::records_lie_forward))]
 pub fn records_lie_forward()
     ensures { RecordsLieForward }
 {}
 
 /// Making and rebuilding are refused exactly for the causes of the refusals, in the order of their numbers.
+#[tactic(auto, using(crate::proofs::Causes::making_refuses_exactly, crate::proofs::Causes::rebuilding_refuses_exactly))]
 pub fn refused_for_their_causes()
     ensures made { MakingRefusesExactly }
     ensures rebuilt { RebuildingRefusesExactly }
@@ -66,11 +72,13 @@ pub fn binding_keeps_the_store()
 {}
 
 /// Binding makes one node for each place of the tree, and answers the last of them.
+#[tactic(auto, using(crate::proofs::BindingLaws::one_node_for_each_place))]
 pub fn one_node_for_each_place()
     ensures { OneNodeForEachPlace }
 {}
 
 /// A refused binding leaves the store as it was, and has its cause at a node of the tree, which it names.
+#[tactic(auto, using(crate::proofs::BindingTypes::binding_refuses))]
 pub fn binding_refuses_for_causes()
     ensures leaves { RefusedBindingsChangeNothing }
     ensures causes { BindingRefusesForCauses }

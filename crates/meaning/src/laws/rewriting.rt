@@ -23,11 +23,13 @@ pub fn optimized_is_normal()
 {}
 
 /// Optimizing needs no more levels than the tree has.
+#[tactic(auto, using(crate::proofs::DepthSuffices::depth_suffices))]
 pub fn depth_suffices()
     ensures { DepthSuffices }
 {}
 
 /// Optimizing is refused only where a 101st round would change a node.
+#[tactic(auto, using(crate::proofs::RefusedRounds::refused_only_for_a_101st_round))]
 pub fn refused_only_for_a_101st_round()
     ensures { RefusedOnlyForA101stRound }
 {}
@@ -43,6 +45,7 @@ pub fn fusing_completes()
 {}
 
 /// A merge takes the first pair, and its Between takes the left one's place.
+#[tactic(auto, using(crate::proofs::FirstPair::merging_takes_the_first_pair))]
 pub fn merging_takes_the_first_pair()
     ensures { MergingTakesTheFirstPair }
 {}
