@@ -92,7 +92,7 @@ fn is_itself(function: Function, count: usize) -> bool
     matches!(function, Function::Root) && count == 0
 }
 
-/// The number that an Extension or a Row carries.
+/// The number that an Extension or a Row carries; 0 of the other kinds.
 fn carried(kind: Kind) -> u8
     ensures { result ≡ carried kind }
 {
