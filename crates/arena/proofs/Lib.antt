@@ -1,3 +1,4 @@
+pub mod Answers
 pub mod AsModelled
 pub mod AsUnbound
 pub mod Drafts

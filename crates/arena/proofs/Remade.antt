@@ -57,13 +57,7 @@ module _ (ss : Schemas) (h : Held) (typing : Typing) (k : ℕ) (x : Node) (cs : 
       ap (λ (o : Option Node). rebuilt_by typing k o cs n (store ss h)) found
       ∙ itself_by k x.function n (store ss h) (entered [] (store ss h) anew)
 
-  -- it is itself
-  pub kept_itself : true ≡ is_itself x.function n → rebuild_by typing k cs n (store ss h) ≡ (Ok k, store ss h)
-  kept_itself e =
-      rebuilt_is
-      ∙ ap (λ (b : Bool). cond b (Ok k, store ss h) (entered [] (store ss h) anew)) (sym e)
-
-  -- or is made anew
+  -- it is made anew where it is not itself
   pub made_anew : false ≡ is_itself x.function n
       → rebuild_by typing k cs n (store ss h) ≡ entered [] (store ss h) anew
   made_anew e =

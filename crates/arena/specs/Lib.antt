@@ -5,6 +5,7 @@ pub mod Building
 pub mod Drafting
 pub mod LawsOfChildren
 pub mod Loose
+pub mod Marks
 pub mod Opened
 pub mod Placing
 pub mod Reading

@@ -1,5 +1,4 @@
-ghost use Rattle.std.specs.Prelude.{◌≡◌, ◌≤◌, true, length, reverse, take};
-ghost use Rattle.arena.specs.Standing.{all_stand};
+ghost use Rattle.arena.specs.Trials.{Marked};
 
 use crate::arena::Arena;
 use meaning::host::Host;
@@ -13,7 +12,5 @@ pub struct Attempt<'a, H: Host> {
     pub(crate) nodes: usize,
     /// How many bytes of text there were.
     pub(crate) text: usize,
-    ghost fewer: { nodes ≤ length arena.now.store.nodes },
-    ghost shorter: { text ≤ length arena.now.store.text },
-    ghost before: { all_stand text (reverse (take nodes (reverse arena.now.store.nodes))) ≡ true },
+    ghost marked: { Marked arena.now.store nodes text },
 }

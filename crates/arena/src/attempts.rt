@@ -3,7 +3,8 @@ ghost use Rattle.model.specs.Making.{make};
 ghost use Rattle.model.specs.Rebuilding.{with_children};
 ghost use Rattle.typing.specs.Asked.{new_of};
 ghost use Rattle.arena.specs.Answered.{Answered};
-ghost use Rattle.arena.specs.Trials.{taken_back};
+ghost use Rattle.arena.specs.Marks.{KeepsItsMarks};
+ghost use Rattle.arena.specs.Trials.{TakenBack};
 
 use crate::arena::Arena;
 use crate::attempt::Attempt;
@@ -11,17 +12,20 @@ use meaning::host::Host;
 use typing::asking::NewFunction;
 use vocabulary::refusals::Refusal;
 
-// The private functions do the work of the public ones, so that these are proved by the check alone and a bug in one of
-// them is refused at its own lines.
+// A rule of this repository: a bug in a public function is refused at its own lines. So the private `make` and `rebuild`
+// have the answers.
 impl<'a, H: Host> Attempt<'a, H> {
     /// Nodes are made on trial from here.
+    #[tactic(auto, using(crate::proofs::Kept::marked_at_end))]
     pub fn begin(arena: &'a mut Arena<H>) -> Attempt<'a, H>
         ensures same { result.arena.ghost_name ≡ arena.entry.ghost_name }
         ensures arena { result.arena.now ≡ arena.old }
         ensures nodes { result.nodes ≡ length arena.old.store.nodes }
         ensures text { result.text ≡ length arena.old.store.text }
     {
-        Attempt::mark(arena)
+        let nodes = arena.nodes().len();
+        let text = arena.text().len();
+        Attempt { arena, nodes, text }
     }
 
     /// The arena with what was made on trial.
@@ -36,9 +40,7 @@ impl<'a, H: Host> Attempt<'a, H> {
         ensures made { Answered result self.old.arena.now self.new.arena.now
             (make (H.Host.meaning self.old.arena.now.host) (new_of function.entry) children.now
             (length children.now) self.old.arena.now.store) }
-        ensures same { self.new.arena.ghost_name ≡ self.old.arena.ghost_name }
-        ensures nodes { self.new.nodes ≡ self.old.nodes }
-        ensures text { self.new.text ≡ self.old.text }
+        ensures marks { KeepsItsMarks self.old self.new }
     {
         self.make(function, children)
     }
@@ -48,9 +50,7 @@ impl<'a, H: Host> Attempt<'a, H> {
         ensures rebuilt { Answered result self.old.arena.now self.new.arena.now
             (with_children (H.Host.meaning self.old.arena.now.host) node children.now
             (length children.now) self.old.arena.now.store) }
-        ensures same { self.new.arena.ghost_name ≡ self.old.arena.ghost_name }
-        ensures nodes { self.new.nodes ≡ self.old.nodes }
-        ensures text { self.new.text ≡ self.old.text }
+        ensures marks { KeepsItsMarks self.old self.new }
     {
         self.rebuild(node, children)
     }
@@ -67,36 +67,12 @@ impl<'a, H: Host> Attempt<'a, H> {
     }
 
     /// Takes back what was made.
+    #[tactic(auto, using(crate::proofs::Kept::text_may_go, crate::proofs::Kept::nodes_may_go, crate::proofs::Kept::cut_is, crate::proofs::Kept::cut_marked))]
     pub fn take_back(self)
-        ensures after { self.exit.0.now.store
-            ≡ taken_back self.entry.nodes self.entry.text self.entry.arena.now.store }
-        ensures schemas { self.exit.0.now.store.schemas ≡ self.entry.arena.now.store.schemas }
-        ensures host { self.exit.0.now.host ≡ self.entry.arena.now.host }
-    {
-        self.cut()
-    }
-
-    /// Cuts the arena off at the marks.
-    fn cut(self)
-        ensures after { self.exit.0.now.store
-            ≡ taken_back self.entry.nodes self.entry.text self.entry.arena.now.store }
-        ensures schemas { self.exit.0.now.store.schemas ≡ self.entry.arena.now.store.schemas }
-        ensures host { self.exit.0.now.host ≡ self.entry.arena.now.host }
+        ensures { TakenBack self.entry.nodes self.entry.text self.entry.arena.now self.exit.0.now }
     {
         let Attempt { arena, nodes, text } = self;
         arena.memory.cut(nodes, text);
-    }
-
-    /// Notes how much there is.
-    fn mark(arena: &'a mut Arena<H>) -> Attempt<'a, H>
-        ensures same { result.arena.ghost_name ≡ arena.entry.ghost_name }
-        ensures arena { result.arena.now ≡ arena.old }
-        ensures nodes { result.nodes ≡ length arena.old.store.nodes }
-        ensures text { result.text ≡ length arena.old.store.text }
-    {
-        let nodes = arena.memory.nodes.len();
-        let text = arena.memory.text.len();
-        Attempt { arena, nodes, text }
     }
 
     /// Making: what was there before stays in front.
@@ -104,9 +80,7 @@ impl<'a, H: Host> Attempt<'a, H> {
         ensures made { Answered result self.old.arena.now self.new.arena.now
             (make (H.Host.meaning self.old.arena.now.host) (new_of function.entry) children.now
             (length children.now) self.old.arena.now.store) }
-        ensures same { self.new.arena.ghost_name ≡ self.old.arena.ghost_name }
-        ensures nodes { self.new.nodes ≡ self.old.nodes }
-        ensures text { self.new.text ≡ self.old.text }
+        ensures marks { KeepsItsMarks self.old self.new }
     {
         self.arena.try_new(function, children)
     }
@@ -116,9 +90,7 @@ impl<'a, H: Host> Attempt<'a, H> {
         ensures rebuilt { Answered result self.old.arena.now self.new.arena.now
             (with_children (H.Host.meaning self.old.arena.now.host) node children.now
             (length children.now) self.old.arena.now.store) }
-        ensures same { self.new.arena.ghost_name ≡ self.old.arena.ghost_name }
-        ensures nodes { self.new.nodes ≡ self.old.nodes }
-        ensures text { self.new.text ≡ self.old.text }
+        ensures marks { KeepsItsMarks self.old self.new }
     {
         self.arena.with_children(node, children)
     }

@@ -12,27 +12,10 @@ use typing::asking::NewFunction;
 use vocabulary::nodes::NEW_NODE;
 use vocabulary::refusals::{MemoryRefusal, Refusal};
 
-// The private functions do the work of the public ones, so that these are proved by the check alone and a bug in one of
-// them is refused at its own lines.
 impl<H: Host> Arena<H> {
     /// Makes a node over the children, and answers its number. Its text goes behind the text.
+    #[tactic(auto, using(crate::proofs::Answers::made))]
     pub fn try_new(&mut self, function: NewFunction<'_>, children: &[u32]) -> Result<u32, Refusal>
-        ensures { Answered result self.old self.new (make (H.Host.meaning self.old.host)
-            (new_of function.entry) children.now (length children.now) self.old.store) }
-    {
-        self.make(function, children)
-    }
-
-    /// Makes a node of the same function, on the same text, over the children. A Root over none is itself.
-    pub fn with_children(&mut self, node: u32, children: &[u32]) -> Result<u32, Refusal>
-        ensures { Answered result self.old self.new (with_children (H.Host.meaning self.old.host)
-            node children.now (length children.now) self.old.store) }
-    {
-        self.rebuild(node, children)
-    }
-
-    /// Making, by the binder as the typist.
-    fn make(&mut self, function: NewFunction<'_>, children: &[u32]) -> Result<u32, Refusal>
         ensures { Answered result self.old self.new (make (H.Host.meaning self.old.host)
             (new_of function.entry) children.now (length children.now) self.old.store) }
     {
@@ -40,8 +23,9 @@ impl<H: Host> Arena<H> {
         self.memory.make(&self.binder, NEW_NODE, function, children)
     }
 
-    /// Rebuilding, by the binder as the typist.
-    fn rebuild(&mut self, node: u32, children: &[u32]) -> Result<u32, Refusal>
+    /// Makes a node of the same function, on the same text, over the children. A Root over none is itself.
+    #[tactic(auto, using(crate::proofs::Answers::rebuilt))]
+    pub fn with_children(&mut self, node: u32, children: &[u32]) -> Result<u32, Refusal>
         ensures { Answered result self.old self.new (with_children (H.Host.meaning self.old.host)
             node children.now (length children.now) self.old.store) }
     {

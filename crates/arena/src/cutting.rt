@@ -1,8 +1,5 @@
 ghost use Rattle.std.specs.Prelude.{◌≡◌, ◌≤◌, true, reverse, take, length};
-ghost use Rattle.meaning.specs.Columns.{Schemas};
-ghost use Rattle.arena.specs.Opened.{store};
 ghost use Rattle.arena.specs.Standing.{all_stand};
-ghost use Rattle.arena.specs.Trials.{taken_back};
 
 use crate::memory::Memory;
 
@@ -12,7 +9,8 @@ impl Memory {
     pub(crate) fn cut(&mut self, nodes: usize, text: usize)
         requires within { text ≤ length self.old.text.items }
         requires standing { all_stand text (reverse (take nodes self.old.nodes.items)) ≡ true }
-        ensures { (ss : Schemas) → store ss self.new ≡ taken_back nodes text (store ss self.old) }
+        ensures nodes { self.new.nodes ≡ record self.old.nodes { items = take nodes self.old.nodes.items } }
+        ensures text { self.new.text ≡ record self.old.text { items = take text self.old.text.items } }
     {
         self.nodes.truncate(nodes);
         self.text.truncate(text);

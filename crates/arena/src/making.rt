@@ -4,6 +4,7 @@ ghost use Rattle.model.specs.Stores.{grown};
 ghost use Rattle.model.specs.Wanted.{new_bytes};
 ghost use Rattle.typing.specs.Asked.{new_of};
 ghost use Rattle.typing.specs.Placing.{function_at};
+ghost use Rattle.arena.specs.Answered.{Gives};
 ghost use Rattle.arena.specs.Building.{make_by};
 ghost use Rattle.arena.specs.Drafting.{bound_by, bound_over, drafted, noted};
 ghost use Rattle.arena.specs.Opened.{store};
@@ -25,11 +26,8 @@ impl Memory {
         asked: NewFunction<'_>,
         children: &[u32],
     ) -> Result<u32, Refusal>
-        ensures answer { (ss : Schemas) → result ≡ (make_by (T.Typist.typing typist.now) place
-            (new_of asked.entry) children.now (length children.now) (store ss self.old)).0 }
-        ensures after { (ss : Schemas) → store ss self.new ≡ (make_by
-            (T.Typist.typing typist.now) place (new_of asked.entry) children.now
-            (length children.now) (store ss self.old)).1 }
+        ensures { Gives result self.old self.new (make_by (T.Typist.typing typist.now) place
+            (new_of asked.entry) children.now (length children.now)) }
     {
         let node = self.draft(typist, place, &asked, children)?;
         Ok(self.enter(node, asked.bytes()))

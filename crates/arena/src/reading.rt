@@ -1,10 +1,11 @@
-ghost use Rattle.std.specs.Prelude.{◌≡◌, reverse, Ok};
+ghost use Rattle.std.specs.Prelude.{◌≡◌, ◌≤◌, true, reverse, length, Ok};
 ghost use Rattle.std.specs.Option.{option_map, ok_or};
 ghost use Rattle.vocabulary.specs.declared.refusals.BindingRefusal.TheVariants.{WrongChildCount};
 ghost use Rattle.vocabulary.specs.declared.refusals.Refusal.TheVariants.{Binding};
 ghost use Rattle.vocabulary.specs.Nodes.{child_at, text_of};
 ghost use Rattle.meaning.specs.HostCode.{part};
 ghost use Rattle.arena.specs.Reading.{of_node, read_bytes};
+ghost use Rattle.arena.specs.Standing.{all_stand};
 
 use crate::arena::Arena;
 use meaning::host::Host;
@@ -59,14 +60,19 @@ impl<H: Host> Arena<H> {
 
     /// The records, each at its number.
     pub fn nodes(&self) -> &[Node]
-        ensures { result.now ≡ reverse self.now.store.nodes }
+        ensures held { result.now ≡ reverse self.now.store.nodes }
+        ensures standing { all_stand (length self.now.store.text) self.now.store.nodes ≡ true }
+        ensures few { length self.now.store.nodes ≤ self.now.store.records }
+        ensures numbered { self.now.store.records ≤ 65535 }
     {
         self.memory.nodes.as_slice()
     }
 
     /// The text: names, and the texts of literals.
     pub fn text(&self) -> &[u8]
-        ensures { result.now ≡ self.now.store.text }
+        ensures held { result.now ≡ self.now.store.text }
+        ensures short { length self.now.store.text ≤ self.now.store.bytes }
+        ensures addressed { self.now.store.bytes ≤ 65536 }
     {
         self.memory.text.as_slice()
     }

@@ -1,11 +1,10 @@
 ghost use Rattle.std.specs.Prelude.{◌≡◌, [], length};
 ghost use Rattle.vocabulary.specs.Types.{carried};
-ghost use Rattle.meaning.specs.Columns.{Schemas};
 ghost use Rattle.meaning.specs.HostCode.{read};
 ghost use Rattle.typing.specs.Asked.{new_of, value_of};
+ghost use Rattle.arena.specs.Answered.{Gives};
 ghost use Rattle.arena.specs.Building.{rebuild_by};
 ghost use Rattle.arena.specs.Drafting.{drafted};
-ghost use Rattle.arena.specs.Opened.{store};
 ghost use Rattle.arena.specs.Rebuilding.{again, is_itself};
 
 use crate::memory::Memory;
@@ -25,11 +24,8 @@ impl Memory {
         node: u32,
         children: &[u32],
     ) -> Result<u32, Refusal>
-        ensures answer { (ss : Schemas) → result ≡ (rebuild_by (T.Typist.typing typist.now) node
-            children.now (length children.now) (store ss self.old)).0 }
-        ensures after { (ss : Schemas) → store ss self.new ≡ (rebuild_by
-            (T.Typist.typing typist.now) node children.now (length children.now)
-            (store ss self.old)).1 }
+        ensures { Gives result self.old self.new (rebuild_by (T.Typist.typing typist.now) node
+            children.now (length children.now)) }
     {
         let old = *self.node(node)?;
         if is_itself(old.function, children.len()) {
@@ -96,7 +92,7 @@ fn is_itself(function: Function, count: usize) -> bool
     matches!(function, Function::Root) && count == 0
 }
 
-/// The number that an Extension or a Row carries.
+/// The number that an Extension or a Row carries; 0 of the other kinds.
 fn carried(kind: Kind) -> u8
     ensures { result ≡ carried kind }
 {

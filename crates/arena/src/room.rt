@@ -30,10 +30,8 @@ impl<T> Room<T> {
     pub(crate) fn reserve(heap: Global, limit: usize) -> Result<Room<T>, MemoryRefusal>
         ensures { MatchResult result (λ r. r ≡ record { items = []; limit = limit }) (λ e. e ≡ NoHeap) }
     {
-        match Vec::with_capacity(heap, limit) {
-            Ok(items) => Ok(Room { items, limit }),
-            Err(_) => Err(MemoryRefusal::NoHeap),
-        }
+        let items = Vec::with_capacity(heap, limit).map_err(|_| MemoryRefusal::NoHeap)?;
+        Ok(Room { items, limit })
     }
 
     /// How many there are.
@@ -67,7 +65,8 @@ impl<T> Room<T> {
 
     /// The items, in the order in which they were put in.
     pub(crate) fn as_slice(&self) -> &[T]
-        ensures { result.now ≡ self.now.items }
+        ensures items { result.now ≡ self.now.items }
+        ensures within { length self.now.items ≤ self.now.limit }
     {
         self.items.as_slice()
     }
@@ -103,6 +102,6 @@ impl Room<u8> {
         requires { length self.old.items + length more.now ≤ self.old.limit }
         ensures { self.new ≡ record self.old { items = self.old.items ++ more.now } }
     {
-        let _ = self.items.extend_from_slice(more);
+        self.items.extend_from_slice(more).unwrap();
     }
 }

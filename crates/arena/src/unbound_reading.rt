@@ -1,4 +1,4 @@
-ghost use Rattle.std.specs.Prelude.{◌≡◌, map, length, Ok};
+ghost use Rattle.std.specs.Prelude.{◌≡◌, ◌≤◌, length, Ok};
 ghost use Rattle.std.specs.Option.{option_map, ok_or};
 ghost use Rattle.std.specs.Result.{result_map_both as both};
 ghost use Rattle.vocabulary.specs.declared.refusals.BindingRefusal.TheVariants.{WrongChildCount};
@@ -51,14 +51,18 @@ impl UnboundArena {
 
     /// How many nodes there are.
     pub fn len(&self) -> usize
-        ensures { result ≡ length self.now.nodes }
+        ensures value { result ≡ length self.now.nodes }
+        ensures few { length self.now.nodes ≤ self.now.records }
+        ensures numbered { self.now.records ≤ 65535 }
     {
         self.memory.nodes.len()
     }
 
     /// The text: names, and the texts of literals.
     pub fn text(&self) -> &[u8]
-        ensures { result.now ≡ self.now.text }
+        ensures held { result.now ≡ self.now.text }
+        ensures short { length self.now.text ≤ self.now.bytes }
+        ensures addressed { self.now.bytes ≤ 65536 }
     {
         self.memory.text.as_slice()
     }

@@ -37,7 +37,7 @@ returns g c =
     let w = new_of c.args.asked in
     let cs = c.args.children.now in
     record {
-      answer =
+      answers =
           λ ss. ap Ok (c.enter.ensures.number ∙ nodes_length ss h)
           ∙ ap (λ (r : Result Node Refusal). (entered (new_bytes w) (store ss h) r).0)
           (c.in_ok-node.ensures ∙ made_is ss h t c.args.place w cs (length cs));
@@ -56,7 +56,7 @@ returns-in_err-node g c =
     let cs = c.args.children.now in
     let (e, is, from) = err_from_is_err_and c.from_residual.result c.from_residual.ensures.1 in
     record {
-      answer =
+      answers =
           λ ss. is ∙ ap Err from
           ∙ ap (λ (r : Result Node Refusal). (entered (new_bytes w) (store ss h) r).0)
           (c.in_err-node.ensures ∙ made_is ss h t c.args.place w cs (length cs));

@@ -33,7 +33,7 @@ returns g c =
     let n = length cs in
     let found = there (node_at (store [] h) k) x (NoSuchNode k) c.in_ok-old.ensures in
     record {
-      answer =
+      answers =
           λ ss. ap Ok (c.enter.ensures.number ∙ nodes_length ss h)
           ∙ ap (λ (r : Result Node Refusal). (entered [] (store ss h) r).0)
           (c.in_ok-anew.ensures ∙ remade_is ss h t k x cs n found)
@@ -60,7 +60,7 @@ returns-in_err-anew g c =
     err_from_is_err_and c.from_residual-in_err-anew.result c.from_residual-in_err-anew.ensures.1
     in
     record {
-      answer =
+      answers =
           λ ss. is ∙ ap Err from
           ∙ ap (λ (r : Result Node Refusal). (entered [] (store ss h) r).0)
           (c.in_err-anew.ensures ∙ remade_is ss h t k x cs n found)
