@@ -2,6 +2,7 @@
 use Rattle.std.proofs.Common.{◌≡◌, ℕ, zero, suc, ◌+◌, Bool, true, false, cond, not, ◌&&◌, eqb, ltb, leb, List, []}
 use Rattle.std.proofs.Common.{◌∷◌, map, length, Some, None, Ok, Err, Option, Result, sym, refl, ap, ◌∙◌}
 use lib.ListN.{length-map}
+use Rattle.std.proofs.lemmas.Simd.{map-map}
 use Rattle.std.proofs.lemmas.Bool.{and_parts, and_from, eqb-true}
 use Rattle.std.specs.Option.{option_map}
 use Rattle.std.proofs.lemmas.Option.{same_Some}
@@ -103,13 +104,9 @@ built_loose w p s head = go (looked_up s (named p.children p.count))
         ∙ counts_passed p s xs (head_counts any_host p.head p.count)
 
 -- read against a schema and without its types again
-fused : (xs : List Node) → map (seen 0) (map untyped xs) ≡ map as_unbound xs
-fused [] = refl
-fused (x ∷ xs) = ap (λ (ys : List Node). as_unbound x ∷ ys) (fused xs)
-
 against_loose : (s : Store) → s.schemas ≡ [] → Loose s → against 0 (loosened s) ≡ s
 against_loose s none e =
-    same_store _ _ _ _ _ _ _ _ _ _ (sym none) (fused s.nodes ∙ all_unbound s.nodes e) refl refl refl
+    same_store _ _ _ _ _ _ _ _ _ _ (sym none) (map-map (seen 0) untyped s.nodes ∙ all_unbound s.nodes e) refl refl refl
 
 entered_loose : (bs : List ℕ) (s : Store) (r : Result Node Refusal)
     → entered_unbound bs (loosened s) r ≡ loosely (entered bs s r)

@@ -1,6 +1,6 @@
 -- What is drafted check by check is what its plan comes to.
-use Rattle.std.proofs.Common.{◌≡◌, ℕ, suc, ◌+◌, ◌≤◌, min, Bool, true, false, cond, ltb, leb, List, [], ◌∷◌, length}
-use Rattle.std.proofs.Common.{Ok, Err, Result, sym, refl, ap, ◌∙◌, add-one, arith, length-take}
+use Rattle.std.proofs.Common.{◌≡◌, ℕ, suc, ◌+◌, Bool, true, false, cond, ltb, leb, List, [], ◌∷◌, length}
+use Rattle.std.proofs.Common.{Ok, Err, Result, sym, refl, ap, ◌∙◌, add-one, arith}
 use Rattle.std.proofs.lemmas.List.{length-reverse}
 use Rattle.vocabulary.specs.declared.nodes.Function.{Function}
 use Rattle.vocabulary.specs.Nodes.{BoundNode as Node}
@@ -17,7 +17,6 @@ use Rattle.meaning.specs.Columns.{Schemas}
 use Rattle.model.specs.Making.{Plan, named, looked_up, with_record, check, types_of, deepest, total_size}
 use Rattle.model.specs.Stores.{Store, node_at}
 use Rattle.model.specs.Wanted.{New, behind}
-use Rattle.model.proofs.Children.{led, ok_same}
 use Rattle.typing.specs.Typing.{Typing}
 use Rattle.arena.specs.declared.bounds.Bound.{Bound}
 use Rattle.arena.specs.declared.memory.Memory.{Memory as Held}
@@ -49,13 +48,6 @@ room_is ss h place more =
 looked_same : (s r : Store) → s.nodes ≡ r.nodes → (ks : List ℕ) → looked_up s ks ≡ looked_up r ks
 looked_same s r e [] = refl
 looked_same s r e (k ∷ ks) = rw e (ap (with_record k (node_at r k)) (looked_same s r e ks))
-
--- as many records as numbers
-looked_length : (s : Store) (ks : List ℕ) (xs : List Node) → looked_up s ks ≡ Ok xs → length xs ≡ length ks
-looked_length s [] xs e = ap length (sym (ok_same e))
-looked_length s (k ∷ ks) xs e =
-    let l = led s k ks xs e in
-    ap length l.whole ∙ ap suc (looked_length s ks l.rest l.others)
 
 -- the checks of a draft, by what they test
 abbrev chain : ℕ → (Span → Function) → List ℕ → ℕ
@@ -102,13 +94,6 @@ module _ (p : Plan) (f : Span → Function) (q : Span) (is : f q ≡ p.function)
       ends t (deepest xs) (total_size xs) (ltb (deepest xs) 256) (ltb (total_size xs) 4096)
       (ltb (length s.nodes) s.records) (leb (length s.text + length p.adds) s.bytes)
 
--- at most eight are looked up
-few_looked : (s : Store) (cs : List ℕ) (n : ℕ) (xs : List Node) → looked_up s (named cs n) ≡ Ok xs → length xs ≤ 8
-few_looked s cs n xs e =
-    let l = looked_length s (named cs n) xs e in
-    let k = length-take (min n 8) cs in
-    omega (arith, l, k)
-
 -- what is drafted is what the plan comes to
 pub draft_is : (ss : Schemas) (h : Held) (typing : Typing) (p : Plan) (w : New) (f : Span → Function)
     → f (behind (store ss h).text p.adds) ≡ p.function
@@ -134,10 +119,9 @@ draft_is ss h typing p w f function =
         let kin = with_more no_kin xs in
         let d : kin.depth ≡ deepest xs = omega (arith, more_depth no_kin xs) in
         let z : kin.size ≡ total_size xs = omega (arith, more_size no_kin xs) in
-        let few = few_looked s cs n xs e in
         let room = room_is ss h place (length p.adds) in
         ap (λ (ts : List DType). chain place f cs n (typing place w n ts) kin.depth kin.size
-        (room_in place h (length p.adds))) (more_types no_kin xs (omega (arith, few)))
+        (room_in place h (length p.adds))) (more_types no_kin xs)
         ∙ ap (λ (y : ℕ). chain place f cs n (typing place w n (types_of xs)) y kin.size
         (room_in place h (length p.adds))) d
         ∙ ap (λ (y : ℕ). chain place f cs n (typing place w n (types_of xs)) (deepest xs) y

@@ -1,8 +1,7 @@
 -- A node that is drafted over the other children is the one that rebuilding comes to.
 use Rattle.std.proofs.Common.{◌≡◌, ℕ, zero, suc, ◌+◌, ◌≤◌, min, Bool, true, false, cond, List, [], reverse, length}
-use Rattle.std.proofs.Common.{Some, None, Ok, Option, Result, sym, refl, ap, ◌∙◌, subst, arith}
+use Rattle.std.proofs.Common.{Some, Ok, Option, Result, sym, refl, ap, ◌∙◌, subst, arith}
 use Rattle.std.proofs.lemmas.Bool.{ne_eqb}
-use Rattle.std.specs.Option.{ok_or}
 use Rattle.vocabulary.specs.declared.nodes.Function.{Function}
 use Rattle.vocabulary.specs.declared.nodes.Function.TheVariants.{Root, Literal, GetItem, Cast, Binary, Between, Host}
 use Rattle.vocabulary.specs.Nodes.{BoundNode as Node}
@@ -13,7 +12,6 @@ use Rattle.model.specs.Making.{entered}
 use Rattle.model.specs.Rebuilding.{old_plan, itself_or}
 use Rattle.model.specs.Stores.{Store, node_at}
 use Rattle.model.specs.Wanted.{New}
-use Rattle.model.proofs.Children.{err_ok, ok_same}
 use Rattle.typing.specs.Typing.{Typing}
 use Rattle.arena.specs.declared.memory.Memory.{Memory as Held}
 use Rattle.arena.specs.Building.{build_by, rebuilt_by, rebuild_by}
@@ -23,11 +21,6 @@ use Rattle.arena.specs.Rebuilding.{again, is_itself}
 use Rattle.arena.specs.Standing.{ends_within}
 use Rattle.arena.proofs.Drafts.{draft_is}
 use Rattle.arena.proofs.Stands.{FitsIn, build_fits, lies, stood}
-
--- a record that was found is there
-pub there : {X E : Type 0} (o : Option X) (x : X) (e : E) → Ok x ≡ ok_or o e → o ≡ Some x
-there None x e h = err_ok e x (sym h)
-there (Some y) x e h = ap Some (sym (ok_same h))
 
 itself_by : (k : ℕ) (f : Function) (n : ℕ) (s : Store) (anew : Result ℕ Refusal × Store)
     → itself_or k f n s anew ≡ cond (is_itself f n) (Ok k, s) anew

@@ -1,19 +1,17 @@
 -- What the children of a node come to, one after another.
-use Rattle.std.specs.Prelude.{ℕ, ◌+◌, max, false, cond, List, [], ◌∷◌, replicate, Ok, Err, Result, nat_lt, slice_set}
+use Rattle.std.specs.Prelude.{ℕ, ◌+◌, max, cond, List, [], ◌∷◌, ◌++◌, Ok, Err, Result, nat_lt}
 use Rattle.vocabulary.specs.Nodes.{BoundNode as Node}
 use Rattle.vocabulary.specs.declared.refusals.BindingRefusal.{BindingRefusal}
 use Rattle.vocabulary.specs.declared.refusals.BindingRefusal.TheVariants.{TooDeep, TooLarge}
 use Rattle.vocabulary.specs.declared.refusals.MemoryRefusal.TheVariants.{NoSuchNode}
 use Rattle.vocabulary.specs.declared.refusals.Refusal.{Refusal}
 use Rattle.vocabulary.specs.declared.refusals.Refusal.TheVariants.{Memory}
-use Rattle.vocabulary.specs.declared.types.Kind.TheVariants as kind
 use Rattle.arena.specs.declared.bounds.Kin.{Kin}
 
 -- of no children
 abbrev pub no_kin : Kin
 no_kin = record {
-  types = replicate 8 (record { kind = kind.Bool; nullable = false });
-  count = 0;
+  types = record { items = [] };
   depth = 0;
   size = 0;
 }
@@ -21,8 +19,7 @@ no_kin = record {
 -- with one more
 abbrev pub with_child : Kin → Node → Kin
 with_child k x = record {
-  types = slice_set k.types k.count x.dtype;
-  count = k.count + 1;
+  types = record { items = k.types.items ++ x.dtype ∷ [] };
   depth = max k.depth x.depth;
   size = k.size + x.size;
 }

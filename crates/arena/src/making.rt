@@ -91,10 +91,9 @@ impl Kin {
         asked: &NewFunction<'_>,
         count: usize,
     ) -> Result<Bound, Refusal>
-        requires { self.now.count ≤ 8 }
         ensures { result ≡ bound_over (T.Typist.typing typist.now) place (new_of asked.now) count self.now }
     {
-        let dtype = typist.type_of(place, asked, count, self.types())?;
+        let dtype = typist.type_of(place, asked, count, self.types.as_slice())?;
         let depth = self.depth_above(place)?;
         let size = self.size_above(place)?;
         Ok(Bound { dtype, depth, size })

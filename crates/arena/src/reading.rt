@@ -11,7 +11,7 @@ use crate::arena::Arena;
 use meaning::host::Host;
 use schemas::tables::Schemas;
 use vocabulary::nodes::Node;
-use vocabulary::refusals::{BindingRefusal, Refusal};
+use vocabulary::refusals::Refusal;
 use vocabulary::types::DType;
 
 impl<H: Host> Arena<H> {
@@ -36,7 +36,7 @@ impl<H: Host> Arena<H> {
         ensures { result ≡ of_node self.now.store node
             (λ x. Ok x.child_count) }
     {
-        Ok(self.memory.node(node)?.child_count)
+        self.memory.child_count(node)
     }
 
     /// The child of a node at that position. Where there is none, the node has the wrong child count.
@@ -44,8 +44,7 @@ impl<H: Host> Arena<H> {
         ensures { result ≡ of_node self.now.store node
             (λ x. ok_or (child_at x position) (Binding (WrongChildCount node))) }
     {
-        let child = self.memory.node(node)?.child(position);
-        Ok(child.ok_or(BindingRefusal::WrongChildCount(node))?)
+        self.memory.child(node, position)
     }
 
     /// A literal's text or a name, by its bytes. Other nodes have none.
@@ -54,8 +53,7 @@ impl<H: Host> Arena<H> {
             (λ x. Ok (option_map (part self.now.store.text)
             (text_of x.function))) }
     {
-        let span = self.memory.node(node)?.text();
-        Ok(span.map(|span| self.memory.text_at(span)))
+        self.memory.text_of(node)
     }
 
     /// The records, each at its number.

@@ -1,13 +1,13 @@
-ghost use Rattle.std.specs.Prelude.{◌≡◌, ◌≤◌, [], take, length, IfOk};
+ghost use Rattle.std.specs.Prelude.{◌≡◌, [], length};
 ghost use Rattle.model.specs.Making.{looked_up, named};
 ghost use Rattle.arena.specs.Opened.{store};
 ghost use Rattle.arena.specs.Surveying.{surveyed, no_kin, deeper, larger};
 
 use crate::bounds::Kin;
 use crate::memory::Memory;
+use arrayvec::ArrayVec;
 use vocabulary::nodes::MAX_CHILDREN;
 use vocabulary::refusals::{BindingRefusal, Refusal};
-use vocabulary::types::{DType, Kind};
 
 /// The most nodes on a path down from a node, itself included.
 pub const MAX_DEPTH: u16 = 256;
@@ -18,21 +18,18 @@ pub const MAX_SIZE: u32 = 4096;
 impl Memory {
     /// Looks at the children, at most eight, up to the first that is no node.
     pub(crate) fn survey(&self, children: &[u32]) -> Result<Kin, Refusal>
-        ensures kin { result ≡ surveyed no_kin
+        ensures { result ≡ surveyed no_kin
             (looked_up (store [] self.now) (named children.now (length children.now))) }
-        ensures few { IfOk result (λ k. k.count ≤ 8) }
     {
         let mut kin = Kin {
-            types: [DType::new(Kind::Bool, false); 8],
-            count: 0,
+            types: ArrayVec::new(),
             depth: 0,
             size: 0,
         };
         let first = &children[..children.len().min(usize::from(MAX_CHILDREN))];
         for &child in first {
             let node = self.node(child)?;
-            kin.types[kin.count] = node.dtype;
-            kin.count += 1;
+            kin.types.push(node.dtype);
             kin.depth = kin.depth.max(node.depth);
             kin.size += u32::from(node.size);
         }
@@ -41,14 +38,6 @@ impl Memory {
 }
 
 impl Kin {
-    /// The types of the children.
-    pub(crate) fn types(&self) -> &[DType]
-        requires { self.now.count ≤ 8 }
-        ensures { result.now ≡ take self.now.count self.now.types }
-    {
-        &self.types[..self.count]
-    }
-
     /// The depth of a node over them.
     pub(crate) fn depth_above(&self, place: u32) -> Result<u16, BindingRefusal>
         ensures { result ≡ deeper place self.now.depth }

@@ -4,9 +4,10 @@ ghost use Rattle.vocabulary.specs.Types.{alike, type_of, is_plain};
 
 use std::fmt;
 
-/// What a type's values are, null apart.
-#[derive(Clone, Copy, PartialEq, Eq)]
+/// What a type's values are, null apart. `Bool` by default, as a place that holds no type yet has to hold one.
+#[derive(Clone, Copy, PartialEq, Eq, Default)]
 pub enum Kind {
+    #[default]
     Bool,
     I64,
     U64,
@@ -19,7 +20,7 @@ pub enum Kind {
 }
 
 /// A kind, and whether null is among its values. A `Row` is never nullable.
-#[derive(Clone, Copy, PartialEq, Eq)]
+#[derive(Clone, Copy, PartialEq, Eq, Default)]
 pub struct DType {
     pub(crate) kind: Kind,
     pub(crate) nullable: bool,

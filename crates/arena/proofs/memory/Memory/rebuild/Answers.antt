@@ -1,13 +1,12 @@
-use Rattle.std.proofs.Common.{ℕ, [], length, Ok, Err, Result, sym, ap, ◌∙◌, arith}
+use Rattle.std.proofs.Common.{◌≡◌, ℕ, [], length, Some, Ok, Err, Result, sym, ap, ◌∙◌, arith}
 use Rattle.std.proofs.lemmas.Result.{err_from_is_err_and}
 use Rattle.vocabulary.specs.Nodes.{BoundNode as Node}
-use Rattle.vocabulary.specs.declared.refusals.MemoryRefusal.TheVariants.{NoSuchNode}
 use Rattle.vocabulary.specs.declared.refusals.Refusal.{Refusal}
 use Rattle.model.specs.Making.{entered}
 use Rattle.model.specs.Stores.{Store, node_at}
 use Rattle.arena.specs.Opened.{store}
 use Rattle.arena.proofs.Drafts.{nodes_length}
-use Rattle.arena.proofs.Remade.{there, made_anew, remade_is, remade_fits}
+use Rattle.arena.proofs.Remade.{made_anew, remade_is, remade_fits}
 use Rattle.arena.proofs.memory.Memory.rebuild.Goals as goal
 
 pub enter-requires : goal.enter-requires
@@ -16,7 +15,7 @@ enter-requires g c =
     let k = c.args.node in
     let x = c.in_ok-old.field-0.now in
     let cs = c.args.children.now in
-    let found = there (node_at (store [] h) k) x (NoSuchNode k) c.in_ok-old.ensures in
+    let found : node_at (store [] h) k ≡ Some x = grind (arith, c.in_ok-old.ensures) in
     let fits =
     remade_fits [] h (g.T.Typist.typing c.args.typist.now) k x cs (length cs) found (omega arith) c.in_ok-anew.anew
     c.in_ok-anew.ensures
@@ -31,7 +30,7 @@ returns g c =
     let x = c.in_ok-old.field-0.now in
     let cs = c.args.children.now in
     let n = length cs in
-    let found = there (node_at (store [] h) k) x (NoSuchNode k) c.in_ok-old.ensures in
+    let found : node_at (store [] h) k ≡ Some x = grind (arith, c.in_ok-old.ensures) in
     record {
       answers =
           λ ss. ap Ok (c.enter.ensures.number ∙ nodes_length ss h)
@@ -55,7 +54,7 @@ returns-in_err-anew g c =
     let x = c.in_ok-old.field-0.now in
     let cs = c.args.children.now in
     let n = length cs in
-    let found = there (node_at (store [] h) k) x (NoSuchNode k) c.in_ok-old.ensures in
+    let found : node_at (store [] h) k ≡ Some x = grind (arith, c.in_ok-old.ensures) in
     let (e, is, from) =
     err_from_is_err_and c.from_residual-in_err-anew.result c.from_residual-in_err-anew.ensures.1
     in
