@@ -37,12 +37,12 @@ taken : (b c : Bool) (n m : ℕ) (ds : List ℕ) → ltb n (2 ^ 64) ≡ c
 taken true true n m ds h e =
     let same : n ≡ m = cc in
     (omega (arith, same, ltb-true n (2 ^ 64) h), ap (λ k. natural_from k ds) same)
-taken true false n m ds h e = let z : ◌≡◌ {A = ℕ} 0 1 = cc in absurd (omega arith)
-taken false c n m ds h e = let z : ◌≡◌ {A = ℕ} 0 1 = cc in absurd (omega arith)
+taken true false n m ds h e = absurd (grind arith)
+taken false c n m ds h e = absurd (grind arith)
 
 stopped : (b c : Bool) (n : ℕ) (ds : List ℕ) → ltb n (2 ^ 64) ≡ c
     → cond (b && c) (Some n) None ≡ None → rest b n ds ≡ None
-stopped true true n ds h e = let z : ◌≡◌ {A = ℕ} 0 1 = cc in absurd (omega arith)
+stopped true true n ds h e = absurd (grind arith)
 stopped true false n ds h e = too_large n ds (all_ascii_digits ds) h
 stopped false c n ds h e = refl
 

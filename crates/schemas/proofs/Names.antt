@@ -17,7 +17,7 @@ same_itself [] = refl
 same_itself (b ∷ bs) = let rest = same_itself bs in grind (arith, nat_tests)
 
 none_parts : {A : Type 0} (b : Bool) (x : A) (o : Option A) → cond b (Some x) o ≡ None → (b ≡ false) × (o ≡ None)
-none_parts true x o h = let z : ◌≡◌ {A = ℕ} 0 1 = cc in absurd (omega arith)
+none_parts true x o h = absurd (grind arith)
 none_parts false x o h = (refl, h)
 
 some_step : {A : Type 0} (b : Bool) (x y : A) (o p : Option A)
@@ -40,7 +40,7 @@ past k name (f ∷ before) rest h =
 -- what is found stays found when columns are added behind
 stays : (k : ℕ) (name : List ℕ) (fs more : List Field) (x : Found)
     → found_from k name fs ≡ Some x → found_from k name (fs ++ more) ≡ Some x
-stays k name [] more x h = let z : ◌≡◌ {A = ℕ} 0 1 = cc in absurd (omega arith)
+stays k name [] more x h = absurd (grind arith)
 stays k name (f ∷ fs) more x h =
     some_step (bytes_eq f.name name) _ x (found_from (k + 1) name fs) (found_from (k + 1) name (fs ++ more))
     (stays (k + 1) name fs more x) h
@@ -54,7 +54,7 @@ new_name fs f h = none_since (found f.name fs) (grind (arith, nat_tests))
   where
     none_since : (o : Option Found) → is_some o ≡ false → o ≡ None
     none_since None e = refl
-    none_since (Some x) e = let z : ◌≡◌ {A = ℕ} 0 1 = cc in absurd (omega arith)
+    none_since (Some x) e = absurd (grind arith)
 
 -- the column at i of those behind `before` is found at its place
 each_found : (before fs : List Field) → declared_after before fs ≡ true
