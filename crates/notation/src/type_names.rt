@@ -28,6 +28,7 @@ fn read_numbered_kind(name: &[u8]) -> Option<Kind>
 }
 
 /// The kind of that name.
+// A function and no `TryFrom`, as for types: both are of another crate.
 pub(crate) fn read_kind(name: &[u8]) -> Option<Kind>
     ensures { result ≡ kind_named name.now }
 {

@@ -133,6 +133,7 @@ pub enum StrictComparison {
 }
 
 impl StrictComparison {
+    // A method and no `From`: the name is the crate's.
     pub fn to_operator(self) -> Operator
         ensures { result ≡ strict_as self }
     {

@@ -301,6 +301,7 @@ impl fmt::Display for Layer {
 }
 
 /// In words: its number, its layer, its cause and what it names.
+// By hand: the number and the layer stand in front of the words of every case, and those are derived.
 impl fmt::Display for Refusal {
     fn fmt<W: fmt::Write>(&self, f: &mut fmt::Formatter<W>) -> fmt::Result {
         let number = self.number();
