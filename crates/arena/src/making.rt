@@ -18,6 +18,7 @@ use vocabulary::nodes::{Function, Node};
 use vocabulary::refusals::Refusal;
 
 impl Memory {
+    // Kept as parameters, here and below: a struct of place, function and children would be taken apart at each use.
     /// Makes a node over the children, and answers its number. Its text goes behind the text.
     pub(crate) fn make<T: Typist>(
         &mut self,

@@ -93,6 +93,7 @@ fn is_itself(function: Function, count: usize) -> bool
 }
 
 /// The number that an Extension or a Row carries; 0 of the other kinds.
+// Kept a number: an `Option` would be no plainer, since the model asks for a Root in this way, whatever the kind.
 fn carried(kind: Kind) -> u8
     ensures { result ≡ carried kind }
 {

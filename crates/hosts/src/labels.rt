@@ -82,6 +82,8 @@ impl LabelFunction {
 #[derive(Clone, Copy)]
 pub struct Labels;
 
+// Kept beside the other host's: `has`, `takes` and `type_of` are one call of its enum each, and one host over any enum
+// would need a trait with the meaning, both laws and all five methods again.
 impl Host for Labels {
     ghost meaning = { λ _. labels };
 

@@ -96,6 +96,8 @@ impl NumberFunction {
 #[derive(Clone, Copy)]
 pub struct Numbers;
 
+// Kept beside the other host's: `has`, `takes` and `type_of` are one call of its enum each, and one host over any enum
+// would need a trait with the meaning, both laws and all five methods again.
 impl Host for Numbers {
     ghost meaning = { λ _. numbers };
 
