@@ -15,7 +15,7 @@ more_size k [] = omega arith
 more_size k (x ∷ xs) = let h = more_size (with_child k x) xs in omega (arith, h)
 
 -- the types that were gathered are those of the records
-pub more_types : (k : Kin) (xs : List Node) → (with_more k xs).types.items ≡ k.types.items ++ types_of xs
-more_types k [] = sym (append-nil k.types.items)
+pub more_types : (k : Kin) (xs : List Node) → (with_more k xs).types ≡ k.types ++ types_of xs
+more_types k [] = sym (append-nil k.types)
 more_types k (x ∷ xs) =
-    more_types (with_child k x) xs ∙ append_assoc k.types.items (x.dtype ∷ []) (types_of xs)
+    more_types (with_child k x) xs ∙ append_assoc k.types (x.dtype ∷ []) (types_of xs)
