@@ -10,3 +10,4 @@ pub mod Numbered
 pub mod Remade
 pub mod SameStores
 pub mod Stands
+pub mod Untyped

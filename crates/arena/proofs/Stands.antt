@@ -6,6 +6,7 @@ use Rattle.std.proofs.Common.{length-take}
 use Rattle.std.proofs.lemmas.List.{reverse-append, take_at, length-take-le}
 use Rattle.std.proofs.lemmas.Bool.{and_parts, and_from, leb-true, ltb-true, le-leb, eq-eqb, eqb-true}
 use Rattle.std.proofs.lemmas.Option.{same_Some}
+use Rattle.vocabulary.specs.declared.nodes.Node.{Node as Record}
 use Rattle.vocabulary.specs.Nodes.{BoundNode as Node}
 use Rattle.vocabulary.specs.declared.refusals.BindingRefusal.{BindingRefusal}
 use Rattle.vocabulary.specs.declared.types.DType.{DType}
@@ -33,12 +34,13 @@ ends_more len more (Some p) h =
     le-leb (p.start + p.len) (len + more) (omega (arith, leb-true (p.start + p.len) len h))
 
 -- the parts of a record that stands
-pub record Stood (len : ℕ) (older : List Node) (x : Node) : Type 0 where
+pub record Stood {T : Type 0} (len : ℕ) (older : List (Record T)) (x : Record T) : Type 0 where
   pub few : leb x.child_count 8 && eqb (length x.children) 8 ≡ true
   pub measured : measures x (found_among older (kids x)) ≡ true
   pub inside : ends_within len (text_of x.function) ≡ true
 
-pub stood : (len : ℕ) (older : List Node) (x : Node) → stands len older x ≡ true → Stood len older x
+pub stood : {T : Type 0} (len : ℕ) (older : List (Record T)) (x : Record T) → stands len older x ≡ true
+    → Stood len older x
 stood len older x h =
     let small : Bool = leb x.child_count 8 && eqb (length x.children) 8 in
     let level : Bool = measures x (found_among older (kids x)) in
@@ -74,18 +76,18 @@ all_stand_more len more (x ∷ xs) h =
     (all_stand_more len more xs b)
 
 -- where a record of a number lies, and that it stands there
-pub record Lies (len : ℕ) (xs : List Node) (k : ℕ) (x : Node) : Type 0 where
-  pub newer : List Node
-  pub older : List Node
+pub record Lies {T : Type 0} (len : ℕ) (xs : List (Record T)) (k : ℕ) (x : Record T) : Type 0 where
+  pub newer : List (Record T)
+  pub older : List (Record T)
   pub whole : xs ≡ newer ++ (x ∷ older)
   pub number : k ≡ length older
   pub there : stands len older x ≡ true
 
-pub lies : (len : ℕ) (xs : List Node) (k : ℕ) (x : Node) → all_stand len xs ≡ true → node_among xs k ≡ Some x
-    → Lies len xs k x
+pub lies : {T : Type 0} (len : ℕ) (xs : List (Record T)) (k : ℕ) (x : Record T) → all_stand len xs ≡ true
+    → node_among xs k ≡ Some x → Lies len xs k x
 unfolding node_among
 lies len [] k x h e = none_some x e
-lies len (y ∷ ys) k x h e = go (lies len ys k x parts.1) (eqb k (length ys)) refl e
+lies {T} len (y ∷ ys) k x h e = go (lies len ys k x parts.1) (eqb k (length ys)) refl e
   where
     parts : (stands len ys y ≡ true) × (all_stand len ys ≡ true)
     parts = and_parts (stands len ys y) (all_stand len ys) h
@@ -97,16 +99,16 @@ lies len (y ∷ ys) k x h e = go (lies len ys k x parts.1) (eqb k (length ys)) r
         record {
           newer = [];
           older = ys;
-          whole = ap (λ (z : Node). z ∷ ys) same;
+          whole = ap (λ (z : Record T). z ∷ ys) same;
           number = eqb-true k (length ys) i;
-          there = subst (λ (z : Node). stands len ys z ≡ true) same parts.0;
+          there = subst (λ (z : Record T). stands len ys z ≡ true) same parts.0;
         }
     go rest false i f =
         let l = rest f in
         record {
           newer = y ∷ l.newer;
           older = l.older;
-          whole = ap (λ (zs : List Node). y ∷ zs) l.whole;
+          whole = ap (λ (zs : List (Record T)). y ∷ zs) l.whole;
           number = l.number;
           there = l.there;
         }
