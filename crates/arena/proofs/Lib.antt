@@ -1,6 +1,7 @@
 pub mod Answers
 pub mod AsModelled
 pub mod AsUnbound
+pub mod Calls
 pub mod Drafts
 pub mod Families
 pub mod FirstChildren

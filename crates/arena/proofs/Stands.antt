@@ -1,9 +1,8 @@
 -- Records that are entered stand, and those before them still do.
 use Rattle.std.proofs.Common.{◌≡◌, ℕ, suc, ◌+◌, ◌<◌, ◌≤◌, min, Bool, true, false, cond, ◌&&◌, eqb, ltb, leb, List, []}
 use Rattle.std.proofs.Common.{◌∷◌, ◌++◌, reverse, length, Some, None, Ok, Err, Option, Result}
-use Rattle.std.proofs.Common.{sym, refl, ap, ◌∙◌, subst, arith, take, drop, replicate, length-append, length-drop}
-use Rattle.std.proofs.Common.{length-take}
-use Rattle.std.proofs.lemmas.List.{reverse-append, take_at, length-take-le}
+use Rattle.std.proofs.Common.{sym, refl, ap, ◌∙◌, subst, arith}
+use Rattle.std.proofs.lemmas.List.{reverse-append}
 use Rattle.std.proofs.lemmas.Bool.{and_parts, and_from, leb-true, ltb-true, le-leb, eq-eqb, eqb-true}
 use Rattle.std.proofs.lemmas.Option.{same_Some}
 use Rattle.vocabulary.specs.declared.nodes.Node.{Node as Record}
@@ -11,7 +10,7 @@ use Rattle.vocabulary.specs.Nodes.{BoundNode as Node}
 use Rattle.vocabulary.specs.declared.refusals.BindingRefusal.{BindingRefusal}
 use Rattle.vocabulary.specs.declared.types.DType.{DType}
 use Rattle.vocabulary.specs.declared.values.Span.{Span}
-use Rattle.vocabulary.specs.Nodes.{padded, text_of}
+use Rattle.vocabulary.specs.Nodes.{text_of}
 use Rattle.meaning.specs.Columns.{Schemas}
 use Rattle.meaning.proofs.CaseSplits.{none_some}
 use Rattle.model.specs.Making.{Plan, named, looked_up, with_record, types_of, deepest, total_size, new_record}
@@ -19,6 +18,7 @@ use Rattle.model.specs.Shapes.{kids}
 use Rattle.model.specs.Soundness.{EndsWithin}
 use Rattle.model.specs.Stores.{Store, node_among, grown}
 use Rattle.model.proofs.Children.{err_ok, ok_same}
+use Rattle.model.proofs.Growing.{padded_named, padded_eight}
 use Rattle.model.proofs.Plans.{checked}
 use Rattle.arena.specs.declared.memory.Memory.{Memory as Held}
 use Rattle.arena.specs.Building.{sized_as, typed_over, build_by}
@@ -157,15 +157,6 @@ built types p s x e = over (looked_up s (named p.children p.count)) refl e
         → typed_over types p s r ≡ Ok x → Built p s x
     over (Err k) a h = err_ok _ x h
     over (Ok xs) a h = typed xs a (types (types_of xs)) h
-
--- the children that are recorded, eight with zeros behind them
-module _ (cs : List ℕ) (n : ℕ) (enough : min n 8 ≤ length cs) where
-  pub padded_named : take (min n 8) (padded cs (min n 8)) ≡ named cs n
-  padded_named =
-      take_at (take (min n 8) cs) (drop (min n 8) (replicate 8 0)) (min n 8) (length-take-le (min n 8) cs enough)
-
-  pub padded_eight : length (padded cs (min n 8)) ≡ 8
-  padded_eight = simp (length-append, length-take, length-drop) (omega arith)
 
 -- a record that a plan comes to stands
 built_stands : (p : Plan) (s : Store) (x : Node) → Built p s x → min p.count 8 ≤ length p.children

@@ -163,6 +163,6 @@ schema_first (New.binary o) next = next
 schema_first (New.between o) next = next
 schema_first (New.host c) next = next
 
--- making a node over the first so many of eight numbers
+-- making a node over the first so many of those numbers
 abbrev pub make : Meaning → New → List ℕ → ℕ → Store → Result ℕ Refusal × Store
 make m w cs n s = entered (new_bytes w) s (schema_first w (build m (new_plan w cs n s) s))
