@@ -19,8 +19,8 @@ use Rattle.model.specs.Unbound.{UnboundStore, unbound_at, rows, seen, against}
 use Rattle.model.specs.UnboundMaking.{any_host, over_unbound, build_unbound, entered_unbound, make_unbound}
 use Rattle.model.specs.UnboundMaking.{itself_or_new, rebuilt_unbound, unbound_with_children}
 use Rattle.model.specs.Wanted.{New, new_function, new_bytes, new_head}
+use Rattle.model.proofs.Growing.{padded_named, padded_eight}
 use Rattle.arena.specs.LawsOfChildren.{TheFirstDecide, eight, EightStandForAny}
-use Rattle.arena.proofs.Stands.{padded_named, padded_eight}
 
 module _ (place : ℕ) (h : Head) (f : Function) (adds : List ℕ) (n : ℕ) (cs ds : List ℕ)
     (e : named cs n ≡ named ds n) where

@@ -1,6 +1,7 @@
 pub mod Answers
 pub mod AsModelled
 pub mod AsUnbound
+pub mod Calls
 pub mod Drafts
 pub mod Families
 pub mod FirstChildren
@@ -10,3 +11,4 @@ pub mod Numbered
 pub mod Remade
 pub mod SameStores
 pub mod Stands
+pub mod Untyped

@@ -1,16 +1,16 @@
 -- Records that are entered stand, and those before them still do.
 use Rattle.std.proofs.Common.{◌≡◌, ℕ, suc, ◌+◌, ◌<◌, ◌≤◌, min, Bool, true, false, cond, ◌&&◌, eqb, ltb, leb, List, []}
 use Rattle.std.proofs.Common.{◌∷◌, ◌++◌, reverse, length, Some, None, Ok, Err, Option, Result}
-use Rattle.std.proofs.Common.{sym, refl, ap, ◌∙◌, subst, arith, take, drop, replicate, length-append, length-drop}
-use Rattle.std.proofs.Common.{length-take}
-use Rattle.std.proofs.lemmas.List.{reverse-append, take_at, length-take-le}
+use Rattle.std.proofs.Common.{sym, refl, ap, ◌∙◌, subst, arith}
+use Rattle.std.proofs.lemmas.List.{reverse-append}
 use Rattle.std.proofs.lemmas.Bool.{and_parts, and_from, leb-true, ltb-true, le-leb, eq-eqb, eqb-true}
 use Rattle.std.proofs.lemmas.Option.{same_Some}
+use Rattle.vocabulary.specs.declared.nodes.Node.{Node as Record}
 use Rattle.vocabulary.specs.Nodes.{BoundNode as Node}
 use Rattle.vocabulary.specs.declared.refusals.BindingRefusal.{BindingRefusal}
 use Rattle.vocabulary.specs.declared.types.DType.{DType}
 use Rattle.vocabulary.specs.declared.values.Span.{Span}
-use Rattle.vocabulary.specs.Nodes.{padded, text_of}
+use Rattle.vocabulary.specs.Nodes.{text_of}
 use Rattle.meaning.specs.Columns.{Schemas}
 use Rattle.meaning.proofs.CaseSplits.{none_some}
 use Rattle.model.specs.Making.{Plan, named, looked_up, with_record, types_of, deepest, total_size, new_record}
@@ -18,6 +18,7 @@ use Rattle.model.specs.Shapes.{kids}
 use Rattle.model.specs.Soundness.{EndsWithin}
 use Rattle.model.specs.Stores.{Store, node_among, grown}
 use Rattle.model.proofs.Children.{err_ok, ok_same}
+use Rattle.model.proofs.Growing.{padded_named, padded_eight}
 use Rattle.model.proofs.Plans.{checked}
 use Rattle.arena.specs.declared.memory.Memory.{Memory as Held}
 use Rattle.arena.specs.Building.{sized_as, typed_over, build_by}
@@ -33,12 +34,13 @@ ends_more len more (Some p) h =
     le-leb (p.start + p.len) (len + more) (omega (arith, leb-true (p.start + p.len) len h))
 
 -- the parts of a record that stands
-pub record Stood (len : ℕ) (older : List Node) (x : Node) : Type 0 where
+pub record Stood {T : Type 0} (len : ℕ) (older : List (Record T)) (x : Record T) : Type 0 where
   pub few : leb x.child_count 8 && eqb (length x.children) 8 ≡ true
   pub measured : measures x (found_among older (kids x)) ≡ true
   pub inside : ends_within len (text_of x.function) ≡ true
 
-pub stood : (len : ℕ) (older : List Node) (x : Node) → stands len older x ≡ true → Stood len older x
+pub stood : {T : Type 0} (len : ℕ) (older : List (Record T)) (x : Record T) → stands len older x ≡ true
+    → Stood len older x
 stood len older x h =
     let small : Bool = leb x.child_count 8 && eqb (length x.children) 8 in
     let level : Bool = measures x (found_among older (kids x)) in
@@ -74,18 +76,18 @@ all_stand_more len more (x ∷ xs) h =
     (all_stand_more len more xs b)
 
 -- where a record of a number lies, and that it stands there
-pub record Lies (len : ℕ) (xs : List Node) (k : ℕ) (x : Node) : Type 0 where
-  pub newer : List Node
-  pub older : List Node
+pub record Lies {T : Type 0} (len : ℕ) (xs : List (Record T)) (k : ℕ) (x : Record T) : Type 0 where
+  pub newer : List (Record T)
+  pub older : List (Record T)
   pub whole : xs ≡ newer ++ (x ∷ older)
   pub number : k ≡ length older
   pub there : stands len older x ≡ true
 
-pub lies : (len : ℕ) (xs : List Node) (k : ℕ) (x : Node) → all_stand len xs ≡ true → node_among xs k ≡ Some x
-    → Lies len xs k x
+pub lies : {T : Type 0} (len : ℕ) (xs : List (Record T)) (k : ℕ) (x : Record T) → all_stand len xs ≡ true
+    → node_among xs k ≡ Some x → Lies len xs k x
 unfolding node_among
 lies len [] k x h e = none_some x e
-lies len (y ∷ ys) k x h e = go (lies len ys k x parts.1) (eqb k (length ys)) refl e
+lies {T} len (y ∷ ys) k x h e = go (lies len ys k x parts.1) (eqb k (length ys)) refl e
   where
     parts : (stands len ys y ≡ true) × (all_stand len ys ≡ true)
     parts = and_parts (stands len ys y) (all_stand len ys) h
@@ -97,16 +99,16 @@ lies len (y ∷ ys) k x h e = go (lies len ys k x parts.1) (eqb k (length ys)) r
         record {
           newer = [];
           older = ys;
-          whole = ap (λ (z : Node). z ∷ ys) same;
+          whole = ap (λ (z : Record T). z ∷ ys) same;
           number = eqb-true k (length ys) i;
-          there = subst (λ (z : Node). stands len ys z ≡ true) same parts.0;
+          there = subst (λ (z : Record T). stands len ys z ≡ true) same parts.0;
         }
     go rest false i f =
         let l = rest f in
         record {
           newer = y ∷ l.newer;
           older = l.older;
-          whole = ap (λ (zs : List Node). y ∷ zs) l.whole;
+          whole = ap (λ (zs : List (Record T)). y ∷ zs) l.whole;
           number = l.number;
           there = l.there;
         }
@@ -155,15 +157,6 @@ built types p s x e = over (looked_up s (named p.children p.count)) refl e
         → typed_over types p s r ≡ Ok x → Built p s x
     over (Err k) a h = err_ok _ x h
     over (Ok xs) a h = typed xs a (types (types_of xs)) h
-
--- the children that are recorded, eight with zeros behind them
-module _ (cs : List ℕ) (n : ℕ) (enough : min n 8 ≤ length cs) where
-  pub padded_named : take (min n 8) (padded cs (min n 8)) ≡ named cs n
-  padded_named =
-      take_at (take (min n 8) cs) (drop (min n 8) (replicate 8 0)) (min n 8) (length-take-le (min n 8) cs enough)
-
-  pub padded_eight : length (padded cs (min n 8)) ≡ 8
-  padded_eight = simp (length-append, length-take, length-drop) (omega arith)
 
 -- a record that a plan comes to stands
 built_stands : (p : Plan) (s : Store) (x : Node) → Built p s x → min p.count 8 ≤ length p.children

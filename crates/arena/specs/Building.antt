@@ -29,7 +29,7 @@ typed_over types p s (Ok xs) = sized_as p s xs (types (types_of xs))
 unfoldable pub build_by : (List DType → Result DType BindingRefusal) → Plan → Store → Result Node Refusal
 build_by types p s = typed_over types p s (looked_up s (named p.children p.count))
 
--- making a node over the first so many of eight numbers, where a refusal names that place
+-- making a node over the first so many of those numbers, where a refusal names that place
 abbrev pub make_by : Typing → ℕ → New → List ℕ → ℕ → Store → Result ℕ Refusal × Store
 make_by typing place w cs n s = entered (new_bytes w) s (build_by (typing place w n) (plan_at place w cs n s) s)
 
@@ -40,6 +40,6 @@ rebuilt_by typing k (Some x) cs n s =
     itself_or k x.function n s
     (entered [] s (build_by (typing k (again s.text x.dtype x.function) n) (old_plan k x cs n s) s))
 
--- rebuilding the node k over the first so many of eight numbers
+-- rebuilding the node k over the first so many of those numbers
 abbrev pub rebuild_by : Typing → ℕ → List ℕ → ℕ → Store → Result ℕ Refusal × Store
 rebuild_by typing k cs n s = rebuilt_by typing k (node_at s k) cs n s

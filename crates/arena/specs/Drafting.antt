@@ -37,7 +37,7 @@ in_binding (Err e) next = Err (Binding e)
 -- type, depth and size over so many children that come to k
 abbrev pub bound_over : Typing → ℕ → New → ℕ → Kin → Result Bound Refusal
 bound_over typing place w n k =
-    in_binding (typing place w n k.types.items) (λ t.
+    in_binding (typing place w n k.types) (λ t.
     in_binding (deeper place k.depth) (λ d.
     in_binding (larger place k.size) (λ z.
     Ok (record { dtype = t; depth = d; size = z }))))

@@ -3,6 +3,7 @@ pub mod ArenaModel
 pub mod Bound
 pub mod Building
 pub mod Drafting
+pub mod LawsOfCalls
 pub mod LawsOfChildren
 pub mod Loose
 pub mod Marks

@@ -11,7 +11,7 @@ use Rattle.arena.specs.declared.bounds.Kin.{Kin}
 -- of no children
 abbrev pub no_kin : Kin
 no_kin = record {
-  types = record { items = [] };
+  types = [];
   depth = 0;
   size = 0;
 }
@@ -19,7 +19,7 @@ no_kin = record {
 -- with one more
 abbrev pub with_child : Kin → Node → Kin
 with_child k x = record {
-  types = record { items = k.types.items ++ x.dtype ∷ [] };
+  types = k.types ++ x.dtype ∷ [];
   depth = max k.depth x.depth;
   size = k.size + x.size;
 }

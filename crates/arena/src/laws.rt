@@ -1,9 +1,19 @@
 //! The laws of children that are given as a slice.
+// Each has an answer: by its lemmas alone the check does not close it.
+ghost use Rattle.arena.specs.LawsOfCalls.{CallsMake, CallsRebuild, CallsMakeUnbound, CallsRebuildUnbound};
 ghost use Rattle.arena.specs.LawsOfChildren.{TheFirstDecide, EightStandForAny};
 
-// It has an answer: by its lemmas alone the check does not close it.
-/// Making and rebuilding look at the first so many children alone, and eight numbers stand for any slice: so the
-/// model's laws of eight numbers hold of it.
+/// Making and rebuilding do as they are asked over all of the children, however many there are, or refuse for their
+/// causes; the store stays sound, and older nodes stay.
+pub fn calls_do_as_asked()
+    ensures made { CallsMake }
+    ensures rebuilt { CallsRebuild }
+    ensures made_unbound { CallsMakeUnbound }
+    ensures rebuilt_unbound { CallsRebuildUnbound }
+{}
+
+/// Making and rebuilding look at the first so many children alone, and eight numbers stand for any slice: the model's
+/// laws hold of both.
 pub fn children_are_as_eight()
     ensures first { TheFirstDecide }
     ensures eight { EightStandForAny }

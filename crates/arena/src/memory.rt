@@ -9,6 +9,8 @@ use vocabulary::nodes::Node;
 pub struct Memory {
     pub(crate) nodes: Room<Node>,
     pub(crate) text: Room<u8>,
+    ghost few: { length nodes.items ≤ nodes.limit },
+    ghost short: { length text.items ≤ text.limit },
     ghost numbered: { nodes.limit ≤ 65535 },
     ghost addressed: { text.limit ≤ 65536 },
     ghost sound: { all_stand (length text.items) (reverse nodes.items) ≡ true },

@@ -3,9 +3,8 @@ ghost use Rattle.model.specs.Making.{looked_up, named};
 ghost use Rattle.arena.specs.Opened.{store};
 ghost use Rattle.arena.specs.Surveying.{surveyed, no_kin, deeper, larger};
 
-use crate::bounds::Kin;
+use crate::bounds::{Kin, Types};
 use crate::memory::Memory;
-use arrayvec::ArrayVec;
 use vocabulary::nodes::MAX_CHILDREN;
 use vocabulary::refusals::{BindingRefusal, Refusal};
 
@@ -22,7 +21,7 @@ impl Memory {
             (looked_up (store [] self.now) (named children.now (length children.now))) }
     {
         let mut kin = Kin {
-            types: ArrayVec::new(),
+            types: Types::none(),
             depth: 0,
             size: 0,
         };

@@ -1,10 +1,11 @@
-ghost use Rattle.std.specs.Prelude.{◌≡◌, ◌≤◌, length, Ok};
+ghost use Rattle.std.specs.Prelude.{◌≡◌, ◌≤◌, true, length, Ok};
 ghost use Rattle.std.specs.Option.{option_map, ok_or};
 ghost use Rattle.vocabulary.specs.declared.refusals.BindingRefusal.TheVariants.{WrongChildCount};
 ghost use Rattle.vocabulary.specs.declared.refusals.Refusal.TheVariants.{Binding};
 ghost use Rattle.vocabulary.specs.Nodes.{child_at, text_of};
 ghost use Rattle.meaning.specs.HostCode.{part};
 ghost use Rattle.arena.specs.Reading.{of_unbound, read_bytes};
+ghost use Rattle.arena.specs.Standing.{all_stand};
 
 use crate::unbound::UnboundArena;
 use vocabulary::nodes::UnboundNode;
@@ -48,8 +49,10 @@ impl UnboundArena {
     }
 
     /// How many nodes there are.
+    #[tactic(auto, using(crate::proofs::Untyped::all_stand_untyped))]
     pub fn len(&self) -> usize
         ensures value { result ≡ length self.now.nodes }
+        ensures standing { all_stand (length self.now.text) self.now.nodes ≡ true }
         ensures few { length self.now.nodes ≤ self.now.records }
         ensures numbered { self.now.records ≤ 65535 }
     {

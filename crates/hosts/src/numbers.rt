@@ -180,7 +180,7 @@ fn coalesce_type(types: &[DType]) -> Option<DType>
     ensures { result ≡ coalesce_type types.now }
 {
     let (first, rest) = types.split_first()?;
-    all_alike(*first, rest).then_some(DType::new(first.kind(), all_nullable(types)))
+    all_alike(*first, rest).then(|| DType::new(first.kind(), all_nullable(types)))
 }
 
 /// The place of the first argument that is not null.

@@ -34,7 +34,8 @@ pub trait Host {
             (read_all texts.entry.arena.now texts.entry.row.now args.now) };
 
     /// What replaces a call when an expression is optimized, by the types of its arguments and the values of
-    /// those that are literals. A host without rules answers `RuleAnswer::nothing()`.
+    /// those that are literals, whose texts lie in the arena's: `Texts { arena, row: &[] }` reads them. A host
+    /// without rules answers `RuleAnswer::nothing()`.
     // Kept as two lists: `type_of` takes the types alone, and the meaning of a rule is of any two lists.
     fn rule(
         &self,

@@ -21,7 +21,7 @@ use Rattle.model.proofs.Children.{err_ok}
 use Rattle.model.proofs.Missing.{err_same}
 use Rattle.model.proofs.Numbers.{tree_older, node_below, node_older}
 use Rattle.model.proofs.Refusing.{has_cause}
-use Rattle.model.proofs.BindingSteps.{head_asked, padded_long, padded_back, heads_agree}
+use Rattle.model.proofs.BindingSteps.{head_asked, padded_enough, padded_back, heads_agree}
 use Rattle.model.proofs.BindingGranted.{Fit, kids_long, Kept, BoundAll, trees_in}
 
 module _ (m : Meaning) (q : ℕ) (text : List ℕ) where
@@ -118,6 +118,6 @@ module _ (m : Meaning) (q : ℕ) (text : List ℕ) where
       (λ (z : Head).
       Refused m s1 at z (new_bytes w) (padded js n) n (shape_tree g (shape text (seen q x))) r)
       same
-      (has_cause m s1 all.kept.sound (plan_at at w (padded js n) n s1) (padded_long js n long fit.few)
+      (has_cause m s1 all.kept.sound (plan_at at w (padded js n) n s1) (padded_enough js n long fit.few)
       (shape_tree g (shape text (seen q x))) tree_of r
       (entered_refused (new_bytes w) s1 (build m (plan_at at w (padded js n) n s1) s1) r later e))

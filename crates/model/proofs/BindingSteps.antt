@@ -94,6 +94,10 @@ module _ (js : List ℕ) (n : ℕ) (long : length js ≡ n) (few : n ≤ 8) wher
   pub padded_long : length (padded js n) ≡ 8
   padded_long = simp (length-append, length-take, length-drop, long) (omega arith)
 
+  -- they are as many as are named
+  pub padded_enough : min n 8 ≤ length (padded js n)
+  padded_enough = omega (arith, padded_long)
+
   pub padded_back : named (padded js n) n ≡ js
   padded_back =
       let all : take n js ≡ js = take_all n js (omega arith) in
@@ -155,14 +159,14 @@ stepped m s sound at w js n long few k later e = go (build m (plan_at at w (padd
         let number : length s.nodes ≡ k = ok_same (ap (λ (z : Result ℕ Refusal × Store). z.0) h) in
         let same : grown x (new_bytes w) s ≡ later = ap (λ (z : Result ℕ Refusal × Store). z.1) h in
         let honest = plan_honest m s at w (padded js n) n in
-        let eight = padded_long js n long few in
+        let enough = padded_enough js n long few in
         subst (λ (z : Store). Stepped m (new_head w) js s z k) same
         (record {
-          sound = grown_sound m s sound (plan_at at w (padded js n) n s) honest eight x b;
+          sound = grown_sound m s sound (plan_at at w (padded js n) n s) honest enough x b;
           grow = λ from g. grows_more from s x (new_bytes w) g;
           tree_is =
               ap (tree (grown x (new_bytes w) s)) (sym number)
-              ∙ planned_tree m s sound (plan_at at w (padded js n) n s) honest eight x b
+              ∙ planned_tree m s sound (plan_at at w (padded js n) n s) honest enough x b
               ∙ ap (λ (z : List ℕ). shape_tree (tree s) (shaped (new_head w) z)) (padded_back js n long few);
           number = sym number;
           one_more = refl;

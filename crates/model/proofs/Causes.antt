@@ -1,6 +1,6 @@
 -- Making and rebuilding are refused exactly for their causes.
-use Rattle.std.proofs.Common.{◌≡◌, ℕ, zero, suc, leb, List, [], length, take, Some, None, Ok, Err, Option, Result}
-use Rattle.std.proofs.Common.{sym, refl, ap, ◌∙◌, subst, inl, inr, arith}
+use Rattle.std.proofs.Common.{◌≡◌, ℕ, zero, suc, ◌≤◌, min, leb, List, [], length, take, Some, None, Ok, Err, Option}
+use Rattle.std.proofs.Common.{Result, sym, refl, ap, ◌∙◌, subst, inl, inr, arith}
 use Rattle.std.proofs.lemmas.Bool.{leb-true, leb-false, le-leb, lt-leb, cond-true, cond-false, cases_lt}
 use Rattle.vocabulary.specs.declared.nodes.Function.{Function}
 use Rattle.vocabulary.specs.declared.nodes.Function.TheVariants.{Root, Literal, GetItem, Cast, Binary, Between, Host}
@@ -40,12 +40,12 @@ schema_passes (binary o) a h = refl
 schema_passes (between o) a h = refl
 schema_passes (host c) a h = refl
 
-module _ (m : Meaning) (s : Store) (sound : Sound m s) (cs : List ℕ) (n : ℕ) (eight : length cs ≡ 8) where
+module _ (m : Meaning) (s : Store) (sound : Sound m s) (cs : List ℕ) (n : ℕ) (enough : min n 8 ≤ length cs) where
   planned : (w : New) (r : Refusal) → build m (new_plan w cs n s) s ≡ Err r
       → Refused m s 65535 (new_head w) (new_bytes w) cs n (new_tree (tree s) cs n w) r
   planned w r h =
-      has_cause m s sound (new_plan w cs n s) eight (new_tree (tree s) cs n w)
-      (asked_tree m (tree s) cs n eight w) r h
+      has_cause m s sound (new_plan w cs n s) enough (new_tree (tree s) cs n w)
+      (asked_tree m (tree s) cs n enough w) r h
 
   schema_refused : (w : New) (r : Refusal) → schema_first w (build m (new_plan w cs n s) s) ≡ Err r
       → RefusedNew m s w cs n r
@@ -68,13 +68,13 @@ module _ (m : Meaning) (s : Store) (sound : Sound m s) (cs : List ℕ) (n : ℕ)
       ∙ cond-false (leb q 7) _ _ (lt-leb q 7 h)
   new_refused w r (RefusedNew.of_the_tree h c) =
       schema_passes w _ h
-      ∙ is_refused m s sound (new_plan w cs n s) eight (new_tree (tree s) cs n w)
-      (asked_tree m (tree s) cs n eight w) r c
+      ∙ is_refused m s sound (new_plan w cs n s) enough (new_tree (tree s) cs n w)
+      (asked_tree m (tree s) cs n enough w) r c
 
 pub making_refuses_exactly : MakingRefusesExactly
-making_refuses_exactly m s sound w cs n eight r = (
-  λ h. schema_refused m s sound cs n eight w r (entered_refused (new_bytes w) s _ r h),
-  λ c. ap (λ (a : Result Node Refusal). (entered (new_bytes w) s a).0) (new_refused m s sound cs n eight w r c),
+making_refuses_exactly m s sound w cs n enough r = (
+  λ h. schema_refused m s sound cs n enough w r (entered_refused (new_bytes w) s _ r h),
+  λ c. ap (λ (a : Result Node Refusal). (entered (new_bytes w) s a).0) (new_refused m s sound cs n enough w r c),
 )
 
 -- a node is itself only where it is a Root over no children
@@ -103,7 +103,8 @@ anew_refused k (Binary o) n s a r h = (λ e z. let q : ◌≡◌ {A = ℕ} 0 1 =
 anew_refused k (Between o) n s a r h = (λ e z. let q : ◌≡◌ {A = ℕ} 0 1 = cc in omega arith, h)
 anew_refused k (Host c) n s a r h = (λ e z. let q : ◌≡◌ {A = ℕ} 0 1 = cc in omega arith, h)
 
-module _ (m : Meaning) (s : Store) (sound : Sound m s) (k : ℕ) (cs : List ℕ) (n : ℕ) (eight : length cs ≡ 8) where
+module _ (m : Meaning) (s : Store) (sound : Sound m s) (k : ℕ) (cs : List ℕ) (n : ℕ)
+    (enough : min n 8 ≤ length cs) where
   node_refused : (r : Refusal) (o : Option Node) → node_at s k ≡ o → (rebuilt m k o cs n s).0 ≡ Err r
       → RefusedOld m s k cs n r
   node_refused r None a h =
@@ -114,8 +115,8 @@ module _ (m : Meaning) (s : Store) (sound : Sound m s) (k : ℕ) (cs : List ℕ)
   node_refused r (Some x) a h =
       let (other, g) = anew_refused k x.function n s _ r h in
       RefusedOld.of_the_tree x a other
-      (has_cause m s sound (old_plan k x cs n s) eight (with_operands (tree s k) (trees s (take n cs)))
-      (other_tree m s sound k x a cs n eight) r (entered_refused [] s _ r g))
+      (has_cause m s sound (old_plan k x cs n s) enough (with_operands (tree s k) (trees s (take n cs)))
+      (other_tree m s sound k x a cs n enough) r (entered_refused [] s _ r g))
 
   old_refused : (r : Refusal) → RefusedOld m s k cs n r → (with_children m k cs n s).0 ≡ Err r
   old_refused r (no_such l) = ap (λ (o : Option Node). (rebuilt m k o cs n s).0) (node_past s.nodes k l)
@@ -123,9 +124,9 @@ module _ (m : Meaning) (s : Store) (sound : Sound m s) (k : ℕ) (cs : List ℕ)
       ap (λ (o : Option Node). (rebuilt m k o cs n s).0) a
       ∙ ap (λ (z : Result ℕ Refusal × Store). z.0) (is_anew k x.function n s _ other)
       ∙ ap (λ (z : Result Node Refusal). (entered [] s z).0)
-      (is_refused m s sound (old_plan k x cs n s) eight (with_operands (tree s k) (trees s (take n cs)))
-      (other_tree m s sound k x a cs n eight) r c)
+      (is_refused m s sound (old_plan k x cs n s) enough (with_operands (tree s k) (trees s (take n cs)))
+      (other_tree m s sound k x a cs n enough) r c)
 
 pub rebuilding_refuses_exactly : RebuildingRefusesExactly
-rebuilding_refuses_exactly m s sound k cs n eight r =
-    (node_refused m s sound k cs n eight r (node_at s k) refl, old_refused m s sound k cs n eight r)
+rebuilding_refuses_exactly m s sound k cs n enough r =
+    (node_refused m s sound k cs n enough r (node_at s k) refl, old_refused m s sound k cs n enough r)

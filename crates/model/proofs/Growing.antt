@@ -35,18 +35,17 @@ pub head_few : (m : Meaning) (h : Head) (n : ℕ) → head_counts m h n ≡ true
 head_few m (join o) n e = omega (arith, eqb-true n 2 e)
 head_few m (over f) n e = fn_few m f n e
 
--- eight numbers, of which some are named
-module _ (cs : List ℕ) (n : ℕ) (eight : length cs ≡ 8) where
+-- numbers, of which the first so many are named
+module _ (cs : List ℕ) (n : ℕ) (enough : min n 8 ≤ length cs) where
   pub named_length : n ≤ 8 → length (named cs n) ≡ n
-  named_length h = simp (length-take, eight) (omega arith)
+  named_length h = simp length-take (omega arith)
 
   pub padded_named : take (min n 8) (padded cs (min n 8)) ≡ named cs n
   padded_named =
-      let h : min n 8 ≤ length cs = omega arith in
-      take_at (take (min n 8) cs) (drop (min n 8) (replicate 8 0)) (min n 8) (length-take-le (min n 8) cs h)
+      take_at (take (min n 8) cs) (drop (min n 8) (replicate 8 0)) (min n 8) (length-take-le (min n 8) cs enough)
 
   pub padded_eight : length (padded cs (min n 8)) ≡ 8
-  padded_eight = simp (length-append, length-take, length-drop, eight) (omega arith)
+  padded_eight = simp (length-append, length-take, length-drop) (omega arith)
 
   pub padded_again : padded cs (min n 8) ≡ padded (padded cs (min n 8)) (min n 8)
   padded_again = ap (λ (z : List ℕ). z ++ drop (min n 8) (replicate 8 0)) (sym padded_named)
@@ -100,18 +99,18 @@ module _ (m : Meaning) (s : Store) (sound : Sound m s) (x : Node) (bs : List ℕ
       }
 
 module _ (m : Meaning) (s : Store) (sound : Sound m s) (p : Plan) (honest : Honest m p s)
-    (eight : length p.children ≡ 8) (x : Node) (b : Built m p s x) where
+    (enough : min p.count 8 ≤ length p.children) (x : Node) (b : Built m p s x) where
   new_head : head (s.text ++ p.adds) x ≡ p.head
   new_head =
       ap (head (s.text ++ p.adds)) b.is ∙ honest.computes b.type _ b.binds
 
   new_kids : kids x ≡ named p.children p.count
-  new_kids = ap kids b.is ∙ padded_named p.children p.count eight
+  new_kids = ap kids b.is ∙ padded_named p.children p.count enough
 
   new_count : head_counts m p.head (length (named p.children p.count)) ≡ true
   new_count =
       let few : p.count ≤ 8 = head_few m p.head p.count b.counted in
-      ap (head_counts m p.head) (named_length p.children p.count eight few) ∙ b.counted
+      ap (head_counts m p.head) (named_length p.children p.count enough few) ∙ b.counted
 
   -- the new node's tree is what the plan computes, over the trees of the children named
   pub planned_tree :
@@ -147,11 +146,11 @@ module _ (m : Meaning) (s : Store) (sound : Sound m s) (p : Plan) (honest : Hone
         ends =
             subst (λ (z : Node). EndsWithin (s.text ++ p.adds) (text_of z.function)) (sym b.is)
             honest.ends;
-        eight = ap (λ (z : Node). length z.children) b.is ∙ padded_eight p.children p.count eight;
+        eight = ap (λ (z : Node). length z.children) b.is ∙ padded_eight p.children p.count enough;
         few = omega (arith, count, few);
         zeros =
             subst (λ (z : Node). z.children ≡ padded z.children z.child_count) (sym b.is)
-            (padded_again p.children p.count eight);
+            (padded_again p.children p.count enough);
       }
 
   -- the store stays sound

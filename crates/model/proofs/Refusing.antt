@@ -1,6 +1,6 @@
 -- A plan is refused exactly for its causes.
-use Rattle.std.proofs.Common.{◌≡◌, ℕ, suc, ◌+◌, ◌≤◌, true, false, ltb, leb, List, length, Some, None, Ok, Err, Option}
-use Rattle.std.proofs.Common.{Result, sym, refl, ap, ◌∙◌, subst, inl, inr, arith}
+use Rattle.std.proofs.Common.{◌≡◌, ℕ, suc, ◌+◌, ◌≤◌, min, true, false, ltb, leb, List, length, Some, None, Ok, Err}
+use Rattle.std.proofs.Common.{Option, Result, sym, refl, ap, ◌∙◌, subst, inl, inr, arith}
 use Rattle.std.proofs.lemmas.Bool.{leb-true, leb-false, ltb-true, ltb-false, le-leb, lt-leb, lt-ltb, le-ltb}
 use Rattle.std.proofs.lemmas.Bool.{cond-true, cond-false}
 use Rattle.vocabulary.specs.Nodes.{BoundNode as Node}
@@ -31,13 +31,14 @@ FinePlan m s p e = Fine m s p.head p.children p.count e
 abbrev pub RefusedPlan : Meaning → Store → Plan → Expr → Refusal → Type 0
 RefusedPlan m s p e r = Refused m s p.place p.head p.adds p.children p.count e r
 
-module _ (m : Meaning) (s : Store) (sound : Sound m s) (p : Plan) (eight : length p.children ≡ 8) (e : Expr)
+module _ (m : Meaning) (s : Store) (sound : Sound m s) (p : Plan)
+    (enough : min p.count 8 ≤ length p.children) (e : Expr)
     (same : head_counts m p.head p.count ≡ true
     → shape_tree (tree s) (shaped p.head (named p.children p.count)) ≡ e) where
   counts_named : head_counts m p.head p.count ≡ true
       → head_counts m p.head (length (named p.children p.count)) ≡ true
   counts_named c =
-      ap (head_counts m p.head) (named_length p.children p.count eight (head_few m p.head p.count c)) ∙ c
+      ap (head_counts m p.head) (named_length p.children p.count enough (head_few m p.head p.count c)) ∙ c
 
   -- what the records of the children say of the tree asked for
   module _ (xs : List Node) (found : looked_up s (named p.children p.count) ≡ Ok xs)

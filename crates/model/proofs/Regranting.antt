@@ -1,6 +1,6 @@
 -- What is rebuilt is the old tree over the other children.
-use Rattle.std.proofs.Common.{◌≡◌, ℕ, zero, suc, true, List, [], length, take, Some, None, Ok, Err, Option, Result}
-use Rattle.std.proofs.Common.{sym, refl, ap, ◌∙◌, subst, inl, inr, append-nil, arith, length-take}
+use Rattle.std.proofs.Common.{◌≡◌, ℕ, zero, suc, ◌≤◌, min, true, List, [], length, take, Some, None, Ok, Err, Option}
+use Rattle.std.proofs.Common.{Result, sym, refl, ap, ◌∙◌, subst, inl, inr, append-nil, arith, length-take}
 use Rattle.std.proofs.lemmas.Bool.{eqb-true}
 use Rattle.vocabulary.specs.declared.nodes.Function.{Function}
 use Rattle.vocabulary.specs.declared.nodes.Function.TheVariants.{Root, Literal, GetItem, Cast, Binary, Between, Host}
@@ -48,14 +48,14 @@ over_others m f (join o) ks ls c =
 over_others m f (over g) ks ls c = refl
 
 module _ (m : Meaning) (s : Store) (sound : Sound m s) (old : ℕ) (x : Node) (e : node_at s old ≡ Some x)
-    (cs : List ℕ) (n : ℕ) (eight : length cs ≡ 8) where
+    (cs : List ℕ) (n : ℕ) (enough : min n 8 ≤ length cs) where
   -- the tree that rebuilding asks for
   pub other_tree : head_counts m (head s.text x) n ≡ true
       → shape_tree (tree s) (shaped (head s.text x) (named cs n))
       ≡ with_operands (tree s old) (trees s (take n cs))
   other_tree c =
       let few = head_few m (head s.text x) n c in
-      let l : length (named cs n) ≡ n = named_length cs n eight few in
+      let l : length (named cs n) ≡ n = named_length cs n enough few in
       over_others m (tree s) (head s.text x) (kids x) (named cs n) (ap (head_counts m (head s.text x)) l ∙ c)
       ∙ ap (λ (z : Expr). with_operands z (trees s (named cs n))) (sym (trees_by_shapes m s sound old x e))
       ∙ ap (λ (ks : List ℕ). with_operands (tree s old) (trees s ks)) (named_all cs n few)
@@ -71,7 +71,7 @@ module _ (m : Meaning) (s : Store) (sound : Sound m s) (old : ℕ) (x : Node) (e
         found = e;
         tree_is =
             ap (tree (grown y [] s)) (sym number)
-            ∙ planned_tree m s sound (old_plan old x cs n s) (old_honest m s old x cs n (sound.each old x e)) eight y b
+            ∙ planned_tree m s sound (old_plan old x cs n s) (old_honest m s old x cs n (sound.each old x e)) enough y b
             ∙ other_tree b.counted;
         text_is = append-nil s.text;
         new_or_itself = inl (sym number, refl);
@@ -116,9 +116,9 @@ module _ (m : Meaning) (s : Store) (sound : Sound m s) (old : ℕ) (x : Node) (e
   found_again k h = itself x.function refl k n refl _ (anew k (build m (old_plan old x cs n s) s) refl) h
 
 pub rebuilt_over_others : RebuiltOverOthers
-rebuilt_over_others m s sound old cs n k eight e = go (node_at s old) refl e
+rebuilt_over_others m s sound old cs n k enough e = go (node_at s old) refl e
   where
     go : (o : Option Node) → node_at s old ≡ o → (rebuilt m old o cs n s).0 ≡ Ok k
         → Rebuilt m old cs n s (rebuilt m old o cs n s).1 k
     go None a h = err_ok _ k h
-    go (Some x) a h = found_again m s sound old x a cs n eight k h
+    go (Some x) a h = found_again m s sound old x a cs n enough k h

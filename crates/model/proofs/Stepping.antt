@@ -1,6 +1,6 @@
 -- Steps keep a store sound, and leave its older nodes as they were.
-use Rattle.std.proofs.Common.{◌≡◌, ℕ, zero, suc, List, [], ◌∷◌, length, Some, None, Ok, Err, Option, Result, sym}
-use Rattle.std.proofs.Common.{refl, ◌∙◌, subst, arith}
+use Rattle.std.proofs.Common.{◌≡◌, ℕ, zero, suc, ◌≤◌, min, List, [], ◌∷◌, length, Some, None, Ok, Err, Option, Result}
+use Rattle.std.proofs.Common.{sym, refl, ◌∙◌, subst, arith}
 use Rattle.vocabulary.specs.declared.nodes.Function.{Function}
 use Rattle.vocabulary.specs.declared.nodes.Function.TheVariants.{Root, Literal, GetItem, Cast, Binary, Between, Host}
 use Rattle.vocabulary.specs.Nodes.{BoundNode as Node}
@@ -13,7 +13,7 @@ use Rattle.model.specs.Wanted.{New, root, literal, get_item, cast, binary, betwe
 use Rattle.model.specs.Making.{Plan, build, entered, schema_first, new_plan, make}
 use Rattle.model.specs.Rebuilding.{old_plan, itself_or, rebuilt}
 use Rattle.model.specs.Soundness.{Sound}
-use Rattle.model.specs.Steps.{Step, makes, rebuilds, perform, numbers}
+use Rattle.model.specs.Steps.{Step, makes, rebuilds, perform, numbers, count}
 use Rattle.model.specs.LawsOfMaking.{EmptyIsSound, StepsKeepSound, NodesStay}
 use Rattle.model.proofs.Numbers.{node_below}
 use Rattle.model.proofs.Plans.{checked, Built, built, Honest, new_honest, old_honest}
@@ -40,17 +40,17 @@ schema_passed (host c) r x e = e
 -- how a step can leave a store: as it was, or grown by a granted plan
 pub data Left (m : Meaning) (s : Store) : Store → Type 0 where
   same : Left m s s
-  more : (p : Plan) (x : Node) → Honest m p s → length p.children ≡ 8 → Built m p s x
+  more : (p : Plan) (x : Node) → Honest m p s → min p.count 8 ≤ length p.children → Built m p s x
       → Left m s (grown x p.adds s)
 
 module _ (m : Meaning) (s : Store) (sound : Sound m s) where
-  entered_left : (p : Plan) (bs : List ℕ) → bs ≡ p.adds → Honest m p s → length p.children ≡ 8
+  entered_left : (p : Plan) (bs : List ℕ) → bs ≡ p.adds → Honest m p s → min p.count 8 ≤ length p.children
       → (r : Result Node Refusal) → ((x : Node) → r ≡ Ok x → build m p s ≡ Ok x) → Left m s (entered bs s r).1
   entered_left p bs e h l (Ok x) b =
       subst (λ (z : List ℕ). Left m s (grown x z s)) (sym e) (more p x h l (built m p s x (b x refl)))
   entered_left p bs e h l (Err r) b = same
 
-  make_left : (w : New) (cs : List ℕ) (n : ℕ) → length cs ≡ 8 → Left m s (make m w cs n s).1
+  make_left : (w : New) (cs : List ℕ) (n : ℕ) → min n 8 ≤ length cs → Left m s (make m w cs n s).1
   make_left w cs n l =
       entered_left (new_plan w cs n s) (new_bytes w) refl (new_honest m s w cs n) l _
       (λ x e. schema_passed w (build m (new_plan w cs n s) s) x e)
@@ -66,14 +66,14 @@ module _ (m : Meaning) (s : Store) (sound : Sound m s) where
   itself_left k (Between o) n anew l = l
   itself_left k (Host c) n anew l = l
 
-  rebuilt_left : (k : ℕ) (o : Option Node) → node_at s k ≡ o → (cs : List ℕ) (n : ℕ) → length cs ≡ 8
+  rebuilt_left : (k : ℕ) (o : Option Node) → node_at s k ≡ o → (cs : List ℕ) (n : ℕ) → min n 8 ≤ length cs
       → Left m s (rebuilt m k o cs n s).1
   rebuilt_left k None e cs n l = same
   rebuilt_left k (Some x) e cs n l =
       itself_left k x.function n _
       (entered_left (old_plan k x cs n s) [] refl (old_honest m s k x cs n (sound.each k x e)) l _ (λ y h. h))
 
-  pub step_left : (c : Step) → length (numbers c) ≡ 8 → Left m s (perform m c s).1
+  pub step_left : (c : Step) → min (count c) 8 ≤ length (numbers c) → Left m s (perform m c s).1
   step_left (makes w cs n) l = make_left w cs n l
   step_left (rebuilds k cs n) l = rebuilt_left k (node_at s k) refl cs n l
 

@@ -1,6 +1,6 @@
 -- What is granted in an unbound arena is the tree asked for, or the old one over other children.
-use Rattle.std.proofs.Common.{◌≡◌, ℕ, zero, suc, true, List, [], ◌++◌, length, take, Some, None, Ok, Err, Option}
-use Rattle.std.proofs.Common.{Result, sym, refl, ap, ◌∙◌, inl, inr, append-nil}
+use Rattle.std.proofs.Common.{◌≡◌, ℕ, zero, suc, ◌≤◌, min, true, List, [], ◌++◌, length, take, Some, None, Ok, Err}
+use Rattle.std.proofs.Common.{Option, Result, sym, refl, ap, ◌∙◌, inl, inr, append-nil}
 use Rattle.std.proofs.lemmas.Bool.{eqb-true}
 use Rattle.vocabulary.specs.declared.nodes.Function.{Function}
 use Rattle.vocabulary.specs.declared.nodes.Function.TheVariants.{Root, Literal, GetItem, Cast, Binary, Between, Host}
@@ -30,7 +30,7 @@ use Rattle.model.proofs.UnboundPlans.{same_takes}
 use Rattle.model.proofs.UnboundGrowing.{planned_for}
 
 pub unbound_made_as_asked : UnboundMadeAsAsked
-unbound_made_as_asked u sound w cs n k eight e = go (build_unbound (new_plan w cs n (against 0 u)) u) refl e
+unbound_made_as_asked u sound w cs n k enough e = go (build_unbound (new_plan w cs n (against 0 u)) u) refl e
   where
     go : (r : Result Node Refusal) → build_unbound (new_plan w cs n (against 0 u)) u ≡ r
         → (entered_unbound (new_bytes w) u r).0 ≡ Ok k → MadeUnbound w cs n u (entered_unbound (new_bytes w) u r).1 k
@@ -43,9 +43,9 @@ unbound_made_as_asked u sound w cs n k eight e = go (build_unbound (new_plan w c
           number = sym number;
           tree_is = λ q.
               ap (tree_for q (unbound_grown (untyped x) (new_bytes w) u)) (sym number)
-              ∙ planned_for u sound (new_plan w cs n (against 0 u)) (new_honest_unbound u w cs n) eight x b q
+              ∙ planned_for u sound (new_plan w cs n (against 0 u)) (new_honest_unbound u w cs n) enough x b q
               ∙ ap (λ (z : Head). shape_tree (tree_for q u) (shaped z (named cs n))) (new_computes q u.text w)
-              ∙ asked_tree any_host (tree_for q u) cs n eight (for_schema q w) (new_takes q w n ∙ b.counted);
+              ∙ asked_tree any_host (tree_for q u) cs n enough (for_schema q w) (new_takes q w n ∙ b.counted);
           one_more = refl;
           text_is = refl;
         }
@@ -55,7 +55,7 @@ head_again : (q : ℕ) (all : List ℕ) (f : Function) → head_of (all ++ []) (
 head_again q all f = ap (λ (z : List ℕ). head_of z (rows q) f) (append-nil all)
 
 module _ (u : UnboundStore) (sound : SoundUnbound u) (old : ℕ) (x : UnboundNode) (e : unbound_at u old ≡ Some x)
-    (cs : List ℕ) (n : ℕ) (eight : length cs ≡ 8) where
+    (cs : List ℕ) (n : ℕ) (enough : min n 8 ≤ length cs) where
   -- the tree that rebuilding asks for
   others_for : (q : ℕ) → head_counts any_host (head_of u.text (rows q) x.function) n ≡ true
       → shape_tree (tree_for q u) (shaped (head_of u.text (rows q) x.function) (named cs n))
@@ -64,7 +64,7 @@ module _ (u : UnboundStore) (sound : SoundUnbound u) (old : ℕ) (x : UnboundNod
       let h = head_of u.text (rows q) x.function in
       let few = head_few any_host h n c in
       over_others any_host (tree_for q u) h (kids x) (named cs n)
-      (ap (head_counts any_host h) (named_length cs n eight few) ∙ c)
+      (ap (head_counts any_host h) (named_length cs n enough few) ∙ c)
       ∙ ap (λ (z : Expr). with_operands z (trees_by (tree_for q u) (named cs n)))
       (sym (shape_for q u old x (sound.each q old x e) e))
       ∙ ap (λ (ks : List ℕ). with_operands (tree_for q u old) (trees_by (tree_for q u) ks)) (named_all cs n few)
@@ -81,7 +81,7 @@ module _ (u : UnboundStore) (sound : SoundUnbound u) (old : ℕ) (x : UnboundNod
         tree_is = λ q.
             ap (tree_for q (unbound_grown (untyped y) [] u)) (sym number)
             ∙ planned_for u sound (old_plan old (seen 0 x) cs n (against 0 u))
-            (old_honest_unbound u old x cs n (sound.each 0 old x e).ends) eight y b q
+            (old_honest_unbound u old x cs n (sound.each 0 old x e).ends) enough y b q
             ∙ ap (λ (z : Head). shape_tree (tree_for q u) (shaped z (named cs n)))
             (head_again q u.text x.function)
             ∙ others_for q (same_takes q 0 u.text u.text x.function n ∙ b.counted);
@@ -130,9 +130,9 @@ module _ (u : UnboundStore) (sound : SoundUnbound u) (old : ℕ) (x : UnboundNod
       (anew k (build_unbound (old_plan old (seen 0 x) cs n (against 0 u)) u) refl) h
 
 pub unbound_rebuilt_over_others : UnboundRebuiltOverOthers
-unbound_rebuilt_over_others u sound old cs n k eight e = go (unbound_at u old) refl e
+unbound_rebuilt_over_others u sound old cs n k enough e = go (unbound_at u old) refl e
   where
     go : (o : Option UnboundNode) → unbound_at u old ≡ o → (rebuilt_unbound old o cs n u).0 ≡ Ok k
         → RebuiltUnbound old cs n u (rebuilt_unbound old o cs n u).1 k
     go None a h = err_ok _ k h
-    go (Some x) a h = again u sound old x a cs n eight k h
+    go (Some x) a h = again u sound old x a cs n enough k h

@@ -1,6 +1,6 @@
 -- An unbound arena that grows by a granted plan stays sound, and its older nodes stay.
-use Rattle.std.proofs.Common.{◌≡◌, ℕ, suc, ◌<◌, ◌≤◌, Bool, true, false, eqb, List, [], ◌∷◌, ◌++◌, map, length, Some}
-use Rattle.std.proofs.Common.{sym, refl, ap, ◌∙◌, subst, arith, length-append}
+use Rattle.std.proofs.Common.{◌≡◌, ℕ, suc, ◌<◌, ◌≤◌, min, Bool, true, false, eqb, List, [], ◌∷◌, ◌++◌, map, length}
+use Rattle.std.proofs.Common.{Some, sym, refl, ap, ◌∙◌, subst, arith, length-append}
 use lib.ListN.{length-map}
 use Rattle.std.proofs.lemmas.Bool.{eqb-true, eqb-false}
 use Rattle.std.proofs.lemmas.Option.{same_Some}
@@ -78,12 +78,12 @@ module _ (u : UnboundStore) (sound : SoundUnbound u) (x : UnboundNode) (bs : Lis
       }
 
 module _ (u : UnboundStore) (sound : SoundUnbound u) (p : Plan) (honest : HonestUnbound p u)
-    (eight : length p.children ≡ 8) (x : Node) (b : BuiltUnbound p u x) where
+    (enough : min p.count 8 ≤ length p.children) (x : Node) (b : BuiltUnbound p u x) where
   few_children : p.count ≤ 8
   few_children = head_few any_host p.head p.count b.counted
 
   kids_are : kids (untyped x) ≡ named p.children p.count
-  kids_are = ap (λ (z : Node). kids (untyped z)) b.is ∙ padded_named p.children p.count eight
+  kids_are = ap (λ (z : Node). kids (untyped z)) b.is ∙ padded_named p.children p.count enough
 
   -- what the new node computes against a schema
   abbrev pub planned_head : ℕ → Head
@@ -105,7 +105,7 @@ module _ (u : UnboundStore) (sound : SoundUnbound u) (p : Plan) (honest : Honest
   newest_counted : (q : ℕ)
       → head_counts any_host (planned_head q) (length (named p.children p.count)) ≡ true
   newest_counted q =
-      ap (head_counts any_host (planned_head q)) (named_length p.children p.count eight few_children)
+      ap (head_counts any_host (planned_head q)) (named_length p.children p.count enough few_children)
       ∙ honest.takes q b.counted
 
   newest_is_sound : (q : ℕ)
@@ -141,11 +141,11 @@ module _ (u : UnboundStore) (sound : SoundUnbound u) (p : Plan) (honest : Honest
         ends =
             subst (λ (z : Node). EndsWithin (u.text ++ p.adds) (text_of z.function)) (sym b.is)
             honest.ends;
-        eight = ap (λ (z : Node). length z.children) b.is ∙ padded_eight p.children p.count eight;
+        eight = ap (λ (z : Node). length z.children) b.is ∙ padded_eight p.children p.count enough;
         few = omega (arith, count, few);
         zeros =
             subst (λ (z : Node). z.children ≡ padded z.children z.child_count) (sym b.is)
-            (padded_again p.children p.count eight);
+            (padded_again p.children p.count enough);
       }
 
   -- the arena stays sound

@@ -1,6 +1,6 @@
 -- Steps keep an unbound arena sound, and leave its older nodes as they were.
-use Rattle.std.proofs.Common.{◌≡◌, ℕ, zero, suc, List, [], ◌∷◌, length, Some, None, Ok, Err, Option, Result, sym}
-use Rattle.std.proofs.Common.{refl, ◌∙◌, subst, arith}
+use Rattle.std.proofs.Common.{◌≡◌, ℕ, zero, suc, ◌≤◌, min, List, [], ◌∷◌, length, Some, None, Ok, Err, Option, Result}
+use Rattle.std.proofs.Common.{sym, refl, ◌∙◌, subst, arith}
 use Rattle.vocabulary.specs.declared.nodes.Function.{Function}
 use Rattle.vocabulary.specs.declared.nodes.Function.TheVariants.{Root, Literal, GetItem, Cast, Binary, Between, Host}
 use Rattle.vocabulary.specs.Nodes.{BoundNode as Node}
@@ -9,7 +9,7 @@ use Rattle.meaning.proofs.CaseSplits.{none_some}
 use Rattle.model.specs.Wanted.{new_bytes}
 use Rattle.model.specs.Making.{Plan, new_plan}
 use Rattle.model.specs.Rebuilding.{old_plan}
-use Rattle.model.specs.Steps.{Step, makes, rebuilds, numbers}
+use Rattle.model.specs.Steps.{Step, makes, rebuilds, numbers, count}
 use Rattle.vocabulary.specs.Nodes.{UnboundNode, untyped}
 use Rattle.model.specs.Unbound.{UnboundStore, unbound_at, unbound_grown, seen}
 use Rattle.model.specs.Unbound.{against, tree_for}
@@ -36,11 +36,11 @@ empty_unbound_is_sound records bytes = record {
 -- how a step can leave an arena: as it was, or grown by a granted plan
 data Left (u : UnboundStore) : UnboundStore → Type 0 where
   same : Left u u
-  more : (p : Plan) (x : Node) → HonestUnbound p u → length p.children ≡ 8 → BuiltUnbound p u x
+  more : (p : Plan) (x : Node) → HonestUnbound p u → min p.count 8 ≤ length p.children → BuiltUnbound p u x
       → Left u (unbound_grown (untyped x) p.adds u)
 
 module _ (u : UnboundStore) (sound : SoundUnbound u) where
-  entered_left : (p : Plan) (bs : List ℕ) → bs ≡ p.adds → HonestUnbound p u → length p.children ≡ 8
+  entered_left : (p : Plan) (bs : List ℕ) → bs ≡ p.adds → HonestUnbound p u → min p.count 8 ≤ length p.children
       → (r : Result Node Refusal) → build_unbound p u ≡ r → Left u (entered_unbound bs u r).1
   entered_left p bs e h l (Ok x) b =
       subst (λ (z : List ℕ). Left u (unbound_grown (untyped x) z u)) (sym e) (more p x h l (built_unbound p u x b))
@@ -57,7 +57,7 @@ module _ (u : UnboundStore) (sound : SoundUnbound u) where
   itself_left k (Between o) n anew l = l
   itself_left k (Host c) n anew l = l
 
-  rebuilt_left : (k : ℕ) (o : Option UnboundNode) → unbound_at u k ≡ o → (cs : List ℕ) (n : ℕ) → length cs ≡ 8
+  rebuilt_left : (k : ℕ) (o : Option UnboundNode) → unbound_at u k ≡ o → (cs : List ℕ) (n : ℕ) → min n 8 ≤ length cs
       → Left u (rebuilt_unbound k o cs n u).1
   rebuilt_left k None e cs n l = same
   rebuilt_left k (Some x) e cs n l =
@@ -65,7 +65,7 @@ module _ (u : UnboundStore) (sound : SoundUnbound u) where
       (entered_left (old_plan k (seen 0 x) cs n (against 0 u)) [] refl
       (old_honest_unbound u k x cs n (sound.each 0 k x e).ends) l _ refl)
 
-  step_left : (c : Step) → length (numbers c) ≡ 8 → Left u (perform_unbound c u).1
+  step_left : (c : Step) → min (count c) 8 ≤ length (numbers c) → Left u (perform_unbound c u).1
   step_left (makes w cs n) l =
       entered_left (new_plan w cs n (against 0 u)) (new_bytes w) refl (new_honest_unbound u w cs n) l _ refl
   step_left (rebuilds k cs n) l = rebuilt_left k (unbound_at u k) refl cs n l

@@ -1,5 +1,5 @@
 -- The laws of making and rebuilding.
-use Rattle.std.specs.Prelude.{◌≡◌, ℕ, suc, ◌⊎◌, List, ◌++◌, reverse, length, take, Some, Ok, Err}
+use Rattle.std.specs.Prelude.{◌≡◌, ℕ, suc, ◌≤◌, min, ◌⊎◌, List, ◌++◌, reverse, length, take, Some, Ok, Err}
 use Rattle.vocabulary.specs.declared.nodes.Function.TheVariants.{Root}
 use Rattle.vocabulary.specs.Nodes.{BoundNode as Node}
 use Rattle.vocabulary.specs.declared.refusals.Refusal.{Refusal}
@@ -13,7 +13,7 @@ use Rattle.model.specs.Wanted.{New, new_bytes, new_tree}
 use Rattle.model.specs.Making.{make}
 use Rattle.model.specs.Rebuilding.{with_children}
 use Rattle.model.specs.Soundness.{Sound}
-use Rattle.model.specs.Steps.{Step, perform, after, AllEight}
+use Rattle.model.specs.Steps.{Step, perform, after, AllGiven}
 
 -- the record of a number lies at that place where the nodes lie oldest first
 abbrev pub RecordsLieForward : Type 0
@@ -27,7 +27,7 @@ EmptyIsSound = (m : Meaning) (ss : Schemas) (records bytes : ℕ) → Sound m (e
 abbrev pub StepsKeepSound : Type 0
 StepsKeepSound =
     (m : Meaning) (s : Store) → Sound m s
-    → (cs : List Step) → AllEight cs → Sound m (after m cs s)
+    → (cs : List Step) → AllGiven cs → Sound m (after m cs s)
 
 -- a store after another: more nodes, and more text behind
 pub record Grows (s later : Store) : Type 0 where
@@ -47,7 +47,7 @@ StepsOnlyAdd = (m : Meaning) (s : Store) (cs : List Step) → Grows s (after m c
 abbrev pub NodesStay : Type 0
 NodesStay =
     (m : Meaning) (s : Store) → Sound m s
-    → (cs : List Step) → AllEight cs
+    → (cs : List Step) → AllGiven cs
     → (k : ℕ) (x : Node) → node_at s k ≡ Some x
     → (node_at (after m cs s) k ≡ Some x) × (tree (after m cs s) k ≡ tree s k)
 
@@ -73,7 +73,7 @@ pub record Made (m : Meaning) (w : New) (cs : List ℕ) (n : ℕ) (s later : Sto
 abbrev pub MadeAsAsked : Type 0
 MadeAsAsked =
     (m : Meaning) (s : Store) → Sound m s
-    → (w : New) (cs : List ℕ) (n k : ℕ) → length cs ≡ 8
+    → (w : New) (cs : List ℕ) (n k : ℕ) → min n 8 ≤ length cs
     → (make m w cs n s).0 ≡ Ok k → Made m w cs n s (make m w cs n s).1 k
 
 -- a tree over other children; And and Or are of two
@@ -97,5 +97,5 @@ pub record Rebuilt (m : Meaning) (old : ℕ) (cs : List ℕ) (n : ℕ) (s later 
 abbrev pub RebuiltOverOthers : Type 0
 RebuiltOverOthers =
     (m : Meaning) (s : Store) → Sound m s
-    → (old : ℕ) (cs : List ℕ) (n k : ℕ) → length cs ≡ 8
+    → (old : ℕ) (cs : List ℕ) (n k : ℕ) → min n 8 ≤ length cs
     → (with_children m old cs n s).0 ≡ Ok k → Rebuilt m old cs n s (with_children m old cs n s).1 k

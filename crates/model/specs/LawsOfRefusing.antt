@@ -1,6 +1,6 @@
 -- Exactly when making and rebuilding are refused, in the order of the refusals' numbers.
-use Rattle.std.specs.Prelude.{◌≡◌, ℕ, ◌+◌, ◌<◌, ◌≤◌, true, false, List, [], ◌∷◌, ◌++◌, length, take, Some, None, Err}
-use Rattle.std.specs.Prelude.{◌≢◌}
+use Rattle.std.specs.Prelude.{◌≡◌, ℕ, ◌+◌, ◌<◌, ◌≤◌, min, true, false, List, [], ◌∷◌, ◌++◌, length, take, Some, None}
+use Rattle.std.specs.Prelude.{Err, ◌≢◌}
 use Rattle.vocabulary.specs.declared.nodes.Function.TheVariants.{Root}
 use Rattle.vocabulary.specs.Nodes.{BoundNode as Node}
 use Rattle.vocabulary.specs.declared.refusals.BindingRefusal.TheVariants.{NoSuchCode, WrongChildCount}
@@ -99,7 +99,7 @@ pub data RefusedNew (m : Meaning) (s : Store) (w : New) (cs : List ℕ) (n : ℕ
 abbrev pub MakingRefusesExactly : Type 0
 MakingRefusesExactly =
     (m : Meaning) (s : Store) → Sound m s
-    → (w : New) (cs : List ℕ) (n : ℕ) → length cs ≡ 8
+    → (w : New) (cs : List ℕ) (n : ℕ) → min n 8 ≤ length cs
     → (r : Refusal)
     → ((make m w cs n s).0 ≡ Err r → RefusedNew m s w cs n r)
     × (RefusedNew m s w cs n r → (make m w cs n s).0 ≡ Err r)
@@ -115,7 +115,7 @@ pub data RefusedOld (m : Meaning) (s : Store) (k : ℕ) (cs : List ℕ) (n : ℕ
 abbrev pub RebuildingRefusesExactly : Type 0
 RebuildingRefusesExactly =
     (m : Meaning) (s : Store) → Sound m s
-    → (k : ℕ) (cs : List ℕ) (n : ℕ) → length cs ≡ 8
+    → (k : ℕ) (cs : List ℕ) (n : ℕ) → min n 8 ≤ length cs
     → (r : Refusal)
     → ((with_children m k cs n s).0 ≡ Err r → RefusedOld m s k cs n r)
     × (RefusedOld m s k cs n r → (with_children m k cs n s).0 ≡ Err r)

@@ -1,11 +1,11 @@
 -- The laws of making and rebuilding unbound nodes.
-use Rattle.std.specs.Prelude.{◌≡◌, ℕ, suc, ◌⊎◌, List, ◌++◌, length, take, Some, Ok, Err}
+use Rattle.std.specs.Prelude.{◌≡◌, ℕ, suc, ◌≤◌, min, ◌⊎◌, List, ◌++◌, length, take, Some, Ok, Err}
 use Rattle.vocabulary.specs.declared.nodes.Function.TheVariants.{Root}
 use Rattle.vocabulary.specs.declared.refusals.Refusal.{Refusal}
 use Rattle.meaning.specs.Values.{Value, null, bool, signed, unsigned, text, ext, whole}
 use Rattle.model.specs.Shapes.{trees_by}
 use Rattle.model.specs.Wanted.{New, root, literal, get_item, cast, binary, between, host, new_bytes, new_tree}
-use Rattle.model.specs.Steps.{Step, AllEight}
+use Rattle.model.specs.Steps.{Step, AllGiven}
 use Rattle.model.specs.LawsOfMaking.{with_operands}
 use Rattle.vocabulary.specs.Nodes.{UnboundNode}
 use Rattle.model.specs.Unbound.{UnboundStore, empty_unbound, unbound_at, tree_for}
@@ -19,13 +19,13 @@ EmptyUnboundIsSound = (records bytes : ℕ) → SoundUnbound (empty_unbound reco
 -- making and rebuilding keep it sound
 abbrev pub UnboundStepsKeepSound : Type 0
 UnboundStepsKeepSound =
-    (u : UnboundStore) → SoundUnbound u → (cs : List Step) → AllEight cs → SoundUnbound (after_unbound cs u)
+    (u : UnboundStore) → SoundUnbound u → (cs : List Step) → AllGiven cs → SoundUnbound (after_unbound cs u)
 
 -- what is made stays: no later step changes a node's record, its number or its tree, whatever the schema
 abbrev pub UnboundNodesStay : Type 0
 UnboundNodesStay =
     (u : UnboundStore) → SoundUnbound u
-    → (cs : List Step) → AllEight cs
+    → (cs : List Step) → AllGiven cs
     → (k : ℕ) (x : UnboundNode) → unbound_at u k ≡ Some x
     → (unbound_at (after_unbound cs u) k ≡ Some x)
     × ((q : ℕ) → tree_for q (after_unbound cs u) k ≡ tree_for q u k)
@@ -65,7 +65,7 @@ pub record MadeUnbound (w : New) (cs : List ℕ) (n : ℕ) (u later : UnboundSto
 abbrev pub UnboundMadeAsAsked : Type 0
 UnboundMadeAsAsked =
     (u : UnboundStore) → SoundUnbound u
-    → (w : New) (cs : List ℕ) (n k : ℕ) → length cs ≡ 8
+    → (w : New) (cs : List ℕ) (n k : ℕ) → min n 8 ≤ length cs
     → (make_unbound w cs n u).0 ≡ Ok k → MadeUnbound w cs n u (make_unbound w cs n u).1 k
 
 -- a rebuilt node is the old one over the other children: a new node on the same text, or a Root itself
@@ -81,6 +81,6 @@ pub record RebuiltUnbound (old : ℕ) (cs : List ℕ) (n : ℕ) (u later : Unbou
 abbrev pub UnboundRebuiltOverOthers : Type 0
 UnboundRebuiltOverOthers =
     (u : UnboundStore) → SoundUnbound u
-    → (old : ℕ) (cs : List ℕ) (n k : ℕ) → length cs ≡ 8
+    → (old : ℕ) (cs : List ℕ) (n k : ℕ) → min n 8 ≤ length cs
     → (unbound_with_children old cs n u).0 ≡ Ok k
     → RebuiltUnbound old cs n u (unbound_with_children old cs n u).1 k

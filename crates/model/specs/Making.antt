@@ -2,6 +2,7 @@
 use Rattle.std.specs.Prelude.{ℕ, suc, ◌+◌, min, max, Bool, true, cond, ◌&&◌, List, [], ◌∷◌, map, length, take, Some}
 use Rattle.std.specs.Prelude.{None, Ok, Err, Option, Result, ◌==◌, nat_le, nat_lt}
 use Rattle.vocabulary.specs.declared.nodes.Function.{Function}
+use Rattle.vocabulary.specs.declared.nodes.Node.{Node as Record}
 use Rattle.vocabulary.specs.Nodes.{BoundNode as Node}
 use Rattle.vocabulary.specs.declared.refusals.BindingRefusal.TheVariants.{NoSuchCode, WrongChildCount}
 use Rattle.vocabulary.specs.declared.refusals.BindingRefusal.TheVariants.{DoesNotBind, TooDeep, TooLarge}
@@ -38,12 +39,13 @@ abbrev pub named : List ℕ → ℕ → List ℕ
 named cs n = take (min n 8) cs
 
 -- one more record in front
-abbrev pub before : Node → Result (List Node) ℕ → Result (List Node) ℕ
+abbrev pub before : {T : Type 0} → Record T → Result (List (Record T)) ℕ → Result (List (Record T)) ℕ
 before x (Ok xs) = Ok (x ∷ xs)
 before x (Err k) = Err k
 
 -- the record of the number k, in front of others
-abbrev pub with_record : ℕ → Option Node → Result (List Node) ℕ → Result (List Node) ℕ
+abbrev pub with_record : {T : Type 0} → ℕ → Option (Record T) → Result (List (Record T)) ℕ
+    → Result (List (Record T)) ℕ
 with_record k None r = Err k
 with_record k (Some x) r = before x r
 
@@ -96,12 +98,12 @@ abbrev pub types_of : List Node → List DType
 types_of xs = map (λ (x : Node). x.dtype) xs
 
 -- the largest depth that is recorded
-abbrev pub deepest : List Node → ℕ
+abbrev pub deepest : {T : Type 0} → List (Record T) → ℕ
 deepest [] = 0
 deepest (x ∷ xs) = max x.depth (deepest xs)
 
 -- the sum of the sizes that are recorded
-abbrev pub total_size : List Node → ℕ
+abbrev pub total_size : {T : Type 0} → List (Record T) → ℕ
 total_size [] = 0
 total_size (x ∷ xs) = x.size + total_size xs
 
@@ -161,6 +163,6 @@ schema_first (New.binary o) next = next
 schema_first (New.between o) next = next
 schema_first (New.host c) next = next
 
--- making a node over the first so many of eight numbers
+-- making a node over the first so many of those numbers
 abbrev pub make : Meaning → New → List ℕ → ℕ → Store → Result ℕ Refusal × Store
 make m w cs n s = entered (new_bytes w) s (schema_first w (build m (new_plan w cs n s) s))

@@ -38,6 +38,6 @@ abbrev pub rebuilt : Meaning → ℕ → Option Node → List ℕ → ℕ → St
 rebuilt m k None cs n s = (Err (Memory (NoSuchNode k)), s)
 rebuilt m k (Some x) cs n s = itself_or k x.function n s (entered [] s (build m (old_plan k x cs n s) s))
 
--- rebuilding the node k over the first so many of eight numbers
+-- rebuilding the node k over the first so many of those numbers
 abbrev pub with_children : Meaning → ℕ → List ℕ → ℕ → Store → Result ℕ Refusal × Store
 with_children m k cs n s = rebuilt m k (node_at s k) cs n s

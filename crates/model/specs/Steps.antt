@@ -1,5 +1,5 @@
 -- Steps that make nodes, one after another.
-use Rattle.std.specs.Prelude.{◌≡◌, ℕ, List, [], ◌∷◌, length, Result}
+use Rattle.std.specs.Prelude.{ℕ, ◌≤◌, min, List, [], ◌∷◌, length, Result}
 use Rattle.vocabulary.specs.declared.refusals.Refusal.{Refusal}
 use Rattle.meaning.specs.Hosts.{Meaning}
 use Rattle.model.specs.Stores.{Store}
@@ -7,7 +7,7 @@ use Rattle.model.specs.Wanted.{New}
 use Rattle.model.specs.Making.{make}
 use Rattle.model.specs.Rebuilding.{with_children}
 
--- making a node, or rebuilding one, over the first so many of eight numbers
+-- making a node, or rebuilding one, over the first so many of those numbers
 pub data Step : Type 0 where
   makes : New → List ℕ → ℕ → Step
   rebuilds : ℕ → List ℕ → ℕ → Step
@@ -27,7 +27,12 @@ abbrev pub numbers : Step → List ℕ
 numbers (makes w cs n) = cs
 numbers (rebuilds k cs n) = cs
 
--- each step is given eight numbers
-abbrev pub AllEight : List Step → Type 0
-AllEight [] = Unit {0}
-AllEight (c ∷ cs) = (length (numbers c) ≡ 8) × AllEight cs
+-- how many of them it names
+abbrev pub count : Step → ℕ
+count (makes w cs n) = n
+count (rebuilds k cs n) = n
+
+-- each step is given the children that it names: so many, or eight where it names more
+abbrev pub AllGiven : List Step → Type 0
+AllGiven [] = Unit {0}
+AllGiven (c ∷ cs) = (min (count c) 8 ≤ length (numbers c)) × AllGiven cs

@@ -42,7 +42,7 @@ abbrev pub entered_unbound : List ℕ → UnboundStore → Result Node Refusal �
 entered_unbound bs u (Ok x) = (Ok (length u.nodes), unbound_grown (untyped x) bs u)
 entered_unbound bs u (Err r) = (Err r, u)
 
--- making a node over the first so many of eight numbers; the schema of a Root asked for is not looked at
+-- making a node over the first so many of those numbers; the schema of a Root asked for is not looked at
 abbrev pub make_unbound : New → List ℕ → ℕ → UnboundStore → Result ℕ Refusal × UnboundStore
 make_unbound w cs n u = entered_unbound (new_bytes w) u (build_unbound (new_plan w cs n (against 0 u)) u)
 
@@ -65,7 +65,7 @@ rebuilt_unbound k (Some x) cs n u =
     itself_or_new k x.function n u
     (entered_unbound [] u (build_unbound (old_plan k (seen 0 x) cs n (against 0 u)) u))
 
--- rebuilding the node k over the first so many of eight numbers
+-- rebuilding the node k over the first so many of those numbers
 abbrev pub unbound_with_children : ℕ → List ℕ → ℕ → UnboundStore → Result ℕ Refusal × UnboundStore
 unbound_with_children k cs n u = rebuilt_unbound k (unbound_at u k) cs n u
 

@@ -25,7 +25,16 @@ impl<'a> Rest<'a> {
         }
     }
 
-    /// The word in front, and the rest behind it and its blanks; a complaint if there is no word.
+    /// The rest without the blanks in front.
+    fn past_blanks(self) -> Rest<'a>
+        ensures line { result.line.now ≡ self.entry.line.now }
+        ensures bytes { result.bytes.now ≡ after_blanks self.entry.bytes.now }
+    {
+        let bytes = after_blanks(self.bytes);
+        Rest { bytes, ..self }
+    }
+
+    /// The word in front, and the rest right behind it; a complaint if there is no word.
     fn next_word(self, missing: Complaint) -> Result<(&'a [u8], Rest<'a>), Mistake>
         ensures word { MatchResult result
             (λ r. (length self.entry.bytes.now ≢ 0) × (r.0.now ≡ word self.entry.bytes.now))
@@ -33,14 +42,13 @@ impl<'a> Rest<'a> {
             × (e ≡ mistaken self.entry.line.now self.entry.bytes.now missing)) }
         ensures rest { MatchResult result
             (λ r. (r.1.line.now ≡ self.entry.line.now)
-            × (r.1.bytes.now ≡ after_blanks (after_word self.entry.bytes.now)))
+            × (r.1.bytes.now ≡ after_word self.entry.bytes.now))
             (λ e. length self.entry.bytes.now ≡ 0) }
     {
         if self.bytes.is_empty() {
             return Err(self.mistake(missing));
         }
-        let (word, behind) = split_word(self.bytes);
-        let bytes = after_blanks(behind);
+        let (word, bytes) = split_word(self.bytes);
         Ok((word, Rest { bytes, ..self }))
     }
 
@@ -48,11 +56,13 @@ impl<'a> Rest<'a> {
     fn read_column(self) -> Result<Line<'a>, Mistake>
         ensures { result_map_both said (λ e. e) result ≡ column_line self.entry.line.now self.entry.bytes.now }
     {
-        let (name, of_type) = self.next_word(Complaint::NameMissing)?;
-        let (word, end) = of_type.next_word(Complaint::TypeMissing)?;
+        let (name, behind) = self.next_word(Complaint::NameMissing)?;
+        let of_type = behind.past_blanks();
+        let (word, behind) = of_type.next_word(Complaint::TypeMissing)?;
         let Some(dtype) = read_type(word) else {
             return Err(of_type.mistake(Complaint::NotAType));
         };
+        let end = behind.past_blanks();
         if end.bytes.is_empty() {
             Ok(Line::Column(name, dtype))
         } else {
@@ -77,14 +87,13 @@ fn read_directive(name: &[u8]) -> Option<Directive>
 pub fn read_line(line: &[u8]) -> Result<Line<'_>, Mistake>
     ensures { result_map_both said (λ e. e) result ≡ line_said line.now }
 {
-    let bytes = after_blanks(line);
-    if bytes.is_empty() || bytes.starts_with(b"#") {
+    let start = Rest { line, bytes: line }.past_blanks();
+    if start.bytes.is_empty() || start.bytes.starts_with(b"#") {
         return Ok(Line::Blank);
     }
-    let start = Rest { line, bytes };
     let (name, behind) = start.next_word(Complaint::NoSuchDirective)?;
     match read_directive(name) {
-        Some(Directive::Column) => behind.read_column(),
+        Some(Directive::Column) => behind.past_blanks().read_column(),
         None => Err(start.mistake(Complaint::NoSuchDirective)),
     }
 }

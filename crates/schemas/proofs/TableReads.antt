@@ -11,6 +11,7 @@ use Rattle.schemas.specs.Declarations.{takes, declared}
 use Rattle.vocabulary.specs.declared.refusals.Refusal.TheVariants.{Binding}
 use Rattle.vocabulary.specs.declared.refusals.BindingRefusal.TheVariants.{BadColumn}
 use Rattle.schemas.specs.Fields.{Field}
+use Rattle.schemas.proofs.Adding.{declared_push}
 
 -- a schema written back with one column more has it behind the others
 pub more_fields : (ss : List (List Field)) (s : ℕ) (d t : List Field) (f : Field) → s < length ss
@@ -59,3 +60,10 @@ still_declared (fs ∷ ss) zero t h k =
 still_declared (fs ∷ ss) (suc s) t h k =
     let p = and_parts (declared fs) (list_all declared ss) h in
     and_from (declared fs) (list_all declared (set ss s t)) p.0 (still_declared ss s t p.1 k)
+
+-- with one column more in one of them too
+pub declared_with_more : (ss : List (List Field)) (s : ℕ) (d t : List Field) (f : Field)
+    → list_all declared ss ≡ true → s < length ss → takes (get_or ss s d) f ≡ true → t ≡ get_or ss s d ++ (f ∷ [])
+    → list_all declared (set ss s t) ≡ true
+declared_with_more ss s d t f h l k e =
+    still_declared ss s t h (rw e (declared_push (get_or ss s d) f (each_declared ss s d h l) k))

@@ -1,14 +1,19 @@
--- The eight schemas: which numbers there are, looking up, adding.
-use Rattle.std.specs.Prelude.{◌≡◌, ℕ, cond, List, [], ◌∷◌, ◌++◌, length, Some, Ok, Err, Option, Result, nat_lt}
+-- The eight schemas: what holds of them, which numbers there are, looking up, adding.
+use Rattle.std.specs.Prelude.{◌≡◌, ℕ, true, cond, List, [], ◌∷◌, ◌++◌, length, Some, Ok, Err, Option, Result, nat_lt}
 use Rattle.std.specs.Prelude.{slice_index_or, slice_set}
+use Rattle.std.specs.List.{list_all}
 use Rattle.vocabulary.specs.declared.refusals.MemoryRefusal.{MemoryRefusal}
 use Rattle.vocabulary.specs.declared.refusals.MemoryRefusal.TheVariants.{NoSuchSchema}
 use Rattle.vocabulary.specs.declared.refusals.BindingRefusal.TheVariants.{BadColumn}
 use Rattle.vocabulary.specs.declared.refusals.Refusal.{Refusal}
 use Rattle.vocabulary.specs.declared.refusals.Refusal.TheVariants.{Memory, Binding}
 use Rattle.schemas.specs.declared.found.Found.{Found}
-use Rattle.schemas.specs.Declarations.{takes}
+use Rattle.schemas.specs.Declarations.{takes, declared}
 use Rattle.schemas.specs.Fields.{Field, found}
+
+-- there are eight schemas, and the columns of each were declared one by one
+abbrev pub AllDeclared : List (List Field) → Type 0
+AllDeclared fss = (length fss ≡ 8) × (list_all declared fss ≡ true)
 
 -- schemas are numbered 0 to 7
 abbrev pub numbered : ℕ → Result ℕ MemoryRefusal

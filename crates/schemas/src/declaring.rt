@@ -1,5 +1,5 @@
 ghost use Rattle.std.specs.Prelude.{◌≡◌, [], replicate};
-ghost use Rattle.schemas.specs.AllSchemas.{added, after};
+ghost use Rattle.schemas.specs.AllSchemas.{AllDeclared, added, after};
 ghost use Rattle.schemas.specs.Fields.{field};
 
 use crate::tables::{Schema, Schemas};
@@ -15,11 +15,14 @@ pub struct Declaring {
 
 impl Model for Declaring {
     ghost use Rattle.std.specs.Prelude.{List};
+    ghost use Rattle.schemas.specs.AllSchemas.{AllDeclared};
     ghost use Rattle.schemas.specs.Fields.{Field};
 
     ghost Value = { List (List Field) };
 
     ghost view = { λ a. a.schemas };
+
+    ghost invariant = { λ a. AllDeclared a.schemas };
 }
 
 impl Declaring {
@@ -38,13 +41,16 @@ impl Declaring {
     pub fn add_column(&mut self, schema: u8, name: &[u8], dtype: DType) -> Result<u8, Refusal>
         ensures answer { result ≡ added schema (field name.now dtype) self.old }
         ensures after { self.new ≡ after result schema (field name.now dtype) self.old }
+        ensures were_declared { AllDeclared self.old }
+        ensures declared { AllDeclared self.new }
     {
         self.schemas.add(schema, name, dtype)
     }
 
     /// Ends declaring.
     pub fn finish(self) -> Schemas
-        ensures { result ≡ self }
+        ensures same { result ≡ self }
+        ensures declared { AllDeclared result }
     {
         let Declaring { schemas } = self;
         schemas

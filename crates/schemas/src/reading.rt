@@ -33,7 +33,9 @@ impl Column {
 impl Schema {
     /// How many columns it has.
     pub fn len(&self) -> u8
-        ensures { result ≡ length self.now }
+        ensures value { result ≡ length self.now }
+        ensures declared { declared self.now ≡ true }
+        ensures few { length self.now ≤ 32 }
     {
         self.count
     }

@@ -1,8 +1,8 @@
-ghost use Rattle.std.specs.Prelude.{◌≡◌, true, length, Ok};
+ghost use Rattle.std.specs.Prelude.{◌≡◌, true, length, Ok, IfOk};
 ghost use Rattle.std.specs.List.{list_all};
 ghost use Rattle.std.specs.Result.{result_map_both};
 ghost use Rattle.vocabulary.specs.declared.refusals.Refusal.TheVariants.{Memory};
-ghost use Rattle.schemas.specs.AllSchemas.{numbered, in_schema, sought, added, after};
+ghost use Rattle.schemas.specs.AllSchemas.{AllDeclared, numbered, in_schema, sought, added, after};
 ghost use Rattle.schemas.specs.Declarations.{declared};
 ghost use Rattle.schemas.specs.Fields.{field};
 
@@ -29,8 +29,9 @@ impl Schemas {
     /// The schema of that number.
     #[tactic(auto, using(crate::proofs::TableReads::answered))]
     pub fn schema(&self, schema: u8) -> Result<&Schema, Refusal>
-        ensures { result_map_both (λ s. s.now) (λ e. e) result
+        ensures answer { result_map_both (λ s. s.now) (λ e. e) result
             ≡ in_schema schema Ok self.now }
+        ensures declared { IfOk result (λ s. declared s.now ≡ true) }
     {
         let at = index_of(schema)?;
         Ok(&self.table[at])
@@ -66,9 +67,11 @@ impl Schemas {
         ensures answer { result ≡ added schema (field name.now dtype) self.old }
         ensures after { self.new
             ≡ after result schema (field name.now dtype) self.old }
+        ensures declared { AllDeclared self.new }
     {
+        let table = &mut self.table;
         let at = index_of(schema)?;
-        let target = &mut self.table[at];
+        let target = &mut table[at];
         let column = target.len();
         if !target.takes(name, dtype) {
             return Err(BindingRefusal::BadColumn { schema, column }.into());

@@ -2,7 +2,7 @@ use std::alloc::{AllocError, Global};
 use std::fmt::Display;
 use std::test::Fail;
 use vocabulary::refusals::{
-    BindingRefusal, EvaluationRefusal, MemoryRefusal, Refusal, RulesRefusal, WalkRefusal,
+    BindingRefusal, EvaluationRefusal, MemoryRefusal, Place, Refusal, RulesRefusal, WalkRefusal,
 };
 use vocabulary::types::{DType, Kind};
 
@@ -113,6 +113,33 @@ fn refusals_are_printed_in_words(rt: HostRuntime) -> Result<(), Fail> {
             "{words}"
         );
     }
+    Ok(())
+}
+
+#[test]
+fn causes_and_places_are_printed_alone(rt: HostRuntime) -> Result<(), Fail> {
+    let asked = MemoryRefusal::NoSuchNode(70_000);
+    assert!(rt; is_printed(rt.alloc(), asked, "no such node or schema, asked 70000")?);
+    let outside = MemoryRefusal::OutsideLimits;
+    assert!(rt; is_printed(rt.alloc(), outside, "memory outside its limits")?);
+    let deep = BindingRefusal::TooDeep(7);
+    assert!(rt; is_printed(rt.alloc(), deep, "too deep, node 7")?);
+    let fault = WalkRefusal::VisitorFault {
+        node: 18,
+        code: 300,
+    };
+    assert!(rt;
+        is_printed(
+            rt.alloc(),
+            fault,
+            "visitor's or rewriter's fault, node 18, code 300"
+        )?
+    );
+    let rounds = RulesRefusal::TooManyRounds(13);
+    assert!(rt; is_printed(rt.alloc(), rounds, "a 101st changing round, node 13")?);
+    let unlike = EvaluationRefusal::UnlikeTypes(16);
+    assert!(rt; is_printed(rt.alloc(), unlike, "unlike types compared, node 16")?);
+    assert!(rt; is_printed(rt.alloc(), Place::Column(31), "column 31")?);
     Ok(())
 }
 

@@ -1,32 +1,25 @@
 ghost use Rattle.std.specs.Prelude.{◌≡◌, Some};
-ghost use Rattle.vocabulary.specs.Printed.{layer_name};
+ghost use Rattle.vocabulary.specs.Printed.{layer_name, cause_words, place_words, why_words, refusal_words};
 ghost use Rattle.vocabulary.specs.declared.refusals.Refusal.TheVariants.{Memory, Binding, Walk, Rules, Evaluation};
 ghost use Rattle.vocabulary.specs.Refusals.{number_of, layer_of, place_of};
 
-use std::{error, fmt};
+use std::fmt;
 use thiserror::Error;
 
 /// What memory refuses.
 #[derive(Clone, Copy, Debug, Error)]
 pub enum MemoryRefusal {
     /// The memory asked for is outside the limits of an arena.
-    #[error("memory outside its limits")]
     OutsideLimits,
     /// The machine has not the memory asked for.
-    #[error("memory outside its limits")]
     NoHeap,
     /// No node has the number asked.
-    #[error("no such node or schema, asked {0}")]
     NoSuchNode(u32),
     /// No schema has the number asked.
-    #[error("no such node or schema, asked {0}")]
     NoSuchSchema(u8),
-    #[error("records full, node {0}")]
     RecordsFull(u32),
-    #[error("text full, node {0}")]
     TextFull(u32),
     /// The work or the results memory lent to the call is too short.
-    #[error("work or results memory short, node {0}")]
     WorkShort(u32),
 }
 
@@ -34,18 +27,12 @@ pub enum MemoryRefusal {
 #[derive(Clone, Copy, Debug, Error)]
 pub enum BindingRefusal {
     /// A column breaks a rule; it would have had that place in the schema.
-    #[error("a column breaks a rule, schema {schema}, column {column}")]
     BadColumn { schema: u8, column: u8 },
-    #[error("no such host code, node {0}")]
     NoSuchCode(u32),
-    #[error("wrong child count, node {0}")]
     WrongChildCount(u32),
     /// Types or a name do not bind, or a null is of a type that is not nullable.
-    #[error("types or a name do not bind, or a null of a type that is not nullable, node {0}")]
     DoesNotBind(u32),
-    #[error("too deep, node {0}")]
     TooDeep(u32),
-    #[error("too large, node {0}")]
     TooLarge(u32),
 }
 
@@ -53,10 +40,8 @@ pub enum BindingRefusal {
 #[derive(Clone, Copy, Debug, Error)]
 pub enum WalkRefusal {
     /// A rewrite's path is over 256 nodes, or it made over 65,535 visits on the way down.
-    #[error("a rewrite's path over 256 nodes, or over 65535 visits on the way down, node {0}")]
     TooLong(u32),
     /// A visitor or a rewriter faulted at the node, with that code.
-    #[error("visitor's or rewriter's fault, node {node}, code {code}")]
     VisitorFault { node: u32, code: u16 },
 }
 
@@ -64,7 +49,6 @@ pub enum WalkRefusal {
 #[derive(Clone, Copy, Debug, Error)]
 pub enum RulesRefusal {
     /// A hundred rounds changed the node, and one more would.
-    #[error("a 101st changing round, node {0}")]
     TooManyRounds(u32),
 }
 
@@ -72,23 +56,18 @@ pub enum RulesRefusal {
 #[derive(Clone, Copy, Debug, Error)]
 pub enum EvaluationRefusal {
     /// The first Root that is of another schema than the row.
-    #[error("a root of another schema, or a row value that does not fit, node {0}")]
     OtherSchema(u32),
     /// The first column whose value does not fit, is missing or is one too many.
-    #[error("a root of another schema, or a row value that does not fit, column {0}")]
     UnfitValue(u8),
     /// A result outside its kind, or a zero divisor.
-    #[error("arithmetic fault, node {0}")]
     Arithmetic(u32),
-    #[error("unlike types compared, node {0}")]
     UnlikeTypes(u32),
     /// A function of the host faulted at the node, with that code.
-    #[error("host fault, node {node}, code {code}")]
     HostFault { node: u32, code: u16 },
 }
 
 /// Why a call was refused.
-#[derive(Clone, Copy, Debug)]
+#[derive(Clone, Copy, Debug, Error)]
 pub enum Refusal {
     Memory(MemoryRefusal),
     Binding(BindingRefusal),
@@ -185,6 +164,19 @@ impl MemoryRefusal {
             | MemoryRefusal::WorkShort(node) => Place::Node(node),
         }
     }
+
+    fn cause(self) -> &'static str
+        ensures { result.now ≡ cause_words (number_of (Memory self)) }
+    {
+        match self {
+            MemoryRefusal::OutsideLimits | MemoryRefusal::NoHeap => "memory outside its limits",
+            MemoryRefusal::NoSuchNode(_) | MemoryRefusal::NoSuchSchema(_) =>
+                "no such node or schema",
+            MemoryRefusal::RecordsFull(_) => "records full",
+            MemoryRefusal::TextFull(_) => "text full",
+            MemoryRefusal::WorkShort(_) => "work or results memory short",
+        }
+    }
 }
 
 impl BindingRefusal {
@@ -213,6 +205,21 @@ impl BindingRefusal {
             | BindingRefusal::TooLarge(node) => Place::Node(node),
         }
     }
+
+    fn cause(self) -> &'static str
+        ensures { result.now ≡ cause_words (number_of (Binding self)) }
+    {
+        match self {
+            BindingRefusal::BadColumn { .. } => "a column breaks a rule",
+            BindingRefusal::NoSuchCode(_) => "no such host code",
+            BindingRefusal::WrongChildCount(_) => "wrong child count",
+            BindingRefusal::DoesNotBind(_) => {
+                "types or a name do not bind, or a null of a type that is not nullable"
+            }
+            BindingRefusal::TooDeep(_) => "too deep",
+            BindingRefusal::TooLarge(_) => "too large",
+        }
+    }
 }
 
 impl EvaluationRefusal {
@@ -236,6 +243,19 @@ impl EvaluationRefusal {
             EvaluationRefusal::OtherSchema(node)
             | EvaluationRefusal::Arithmetic(node)
             | EvaluationRefusal::UnlikeTypes(node) => Place::Node(node),
+        }
+    }
+
+    fn cause(self) -> &'static str
+        ensures { result.now ≡ cause_words (number_of (Evaluation self)) }
+    {
+        match self {
+            EvaluationRefusal::OtherSchema(_) | EvaluationRefusal::UnfitValue(_) => {
+                "a root of another schema, or a row value that does not fit"
+            }
+            EvaluationRefusal::Arithmetic(_) => "arithmetic fault",
+            EvaluationRefusal::UnlikeTypes(_) => "unlike types compared",
+            EvaluationRefusal::HostFault { .. } => "host fault",
         }
     }
 }
@@ -284,6 +304,22 @@ impl Refusal {
             Refusal::Evaluation(e) => e.place(),
         }
     }
+
+    /// Its cause in words, by its number alone.
+    fn cause(self) -> &'static str
+        ensures { result.now ≡ cause_words (number_of self) }
+    {
+        match self {
+            Refusal::Memory(e) => e.cause(),
+            Refusal::Binding(e) => e.cause(),
+            Refusal::Walk(WalkRefusal::TooLong(_)) => {
+                "a rewrite's path over 256 nodes, or over 65535 visits on the way down"
+            }
+            Refusal::Walk(WalkRefusal::VisitorFault { .. }) => "visitor's or rewriter's fault",
+            Refusal::Rules(RulesRefusal::TooManyRounds(_)) => "a 101st changing round",
+            Refusal::Evaluation(e) => e.cause(),
+        }
+    }
 }
 
 impl fmt::Display for Layer {
@@ -300,21 +336,88 @@ impl fmt::Display for Layer {
     }
 }
 
-/// In words: its number, its layer, its cause and what it names.
-// By hand: the number and the layer stand in front of the words of every case, and those are derived.
-impl fmt::Display for Refusal {
+/// In words; where nothing is named there are none.
+impl fmt::Display for Place {
+    ghost output = { λ p. Some (place_words p) };
+
     fn fmt<W: fmt::Write>(&self, f: &mut fmt::Formatter<W>) -> fmt::Result {
-        let number = self.number();
-        let layer = self.layer();
-        write!(f, "refused {number} ({layer}): ")?;
         match self {
-            Refusal::Memory(cause) => write!(f, "{cause}"),
-            Refusal::Binding(cause) => write!(f, "{cause}"),
-            Refusal::Walk(cause) => write!(f, "{cause}"),
-            Refusal::Rules(cause) => write!(f, "{cause}"),
-            Refusal::Evaluation(cause) => write!(f, "{cause}"),
+            Place::Nothing => Ok(()),
+            Place::SchemaColumn { schema, column } => write!(f, "schema {schema}, column {column}"),
+            Place::Asked(number) => write!(f, "asked {number}"),
+            Place::Node(node) => write!(f, "node {node}"),
+            Place::Column(column) => write!(f, "column {column}"),
+            Place::NodeCode { node, code } => write!(f, "node {node}, code {code}"),
         }
     }
 }
 
-impl error::Error for Refusal {}
+/// Why a call was refused, in words: the cause, and behind a comma what it names.
+// A wrapper: each layer's refusals print it alone, and `Refusal` behind its number and its layer.
+#[derive(Clone, Copy)]
+struct Why(Refusal);
+
+impl fmt::Display for Why {
+    ghost output = { λ w. Some (why_words w.0) };
+
+    fn fmt<W: fmt::Write>(&self, f: &mut fmt::Formatter<W>) -> fmt::Result {
+        let cause = self.0.cause();
+        match self.0.place() {
+            Place::Nothing => write!(f, "{cause}"),
+            place => write!(f, "{cause}, {place}"),
+        }
+    }
+}
+
+// By hand, as the next four: what a derive prints has no contract.
+impl fmt::Display for MemoryRefusal {
+    ghost output = { λ e. Some (why_words (Memory e)) };
+
+    fn fmt<W: fmt::Write>(&self, f: &mut fmt::Formatter<W>) -> fmt::Result {
+        write!(f, "{}", Why(Refusal::Memory(*self)))
+    }
+}
+
+impl fmt::Display for BindingRefusal {
+    ghost output = { λ e. Some (why_words (Binding e)) };
+
+    fn fmt<W: fmt::Write>(&self, f: &mut fmt::Formatter<W>) -> fmt::Result {
+        write!(f, "{}", Why(Refusal::Binding(*self)))
+    }
+}
+
+impl fmt::Display for WalkRefusal {
+    ghost output = { λ e. Some (why_words (Walk e)) };
+
+    fn fmt<W: fmt::Write>(&self, f: &mut fmt::Formatter<W>) -> fmt::Result {
+        write!(f, "{}", Why(Refusal::Walk(*self)))
+    }
+}
+
+impl fmt::Display for RulesRefusal {
+    ghost output = { λ e. Some (why_words (Rules e)) };
+
+    fn fmt<W: fmt::Write>(&self, f: &mut fmt::Formatter<W>) -> fmt::Result {
+        write!(f, "{}", Why(Refusal::Rules(*self)))
+    }
+}
+
+impl fmt::Display for EvaluationRefusal {
+    ghost output = { λ e. Some (why_words (Evaluation e)) };
+
+    fn fmt<W: fmt::Write>(&self, f: &mut fmt::Formatter<W>) -> fmt::Result {
+        write!(f, "{}", Why(Refusal::Evaluation(*self)))
+    }
+}
+
+/// In words: its number, its layer, its cause and what it names.
+impl fmt::Display for Refusal {
+    ghost output = { λ r. Some (refusal_words r) };
+
+    fn fmt<W: fmt::Write>(&self, f: &mut fmt::Formatter<W>) -> fmt::Result {
+        let number = self.number();
+        let layer = self.layer();
+        let why = Why(*self);
+        write!(f, "refused {number} ({layer}): {why}")
+    }
+}

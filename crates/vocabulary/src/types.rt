@@ -4,10 +4,9 @@ ghost use Rattle.vocabulary.specs.Types.{alike, type_of, is_plain};
 
 use std::fmt;
 
-/// What a type's values are, null apart. `Bool` by default, as a place that holds no type yet has to hold one.
-#[derive(Clone, Copy, PartialEq, Eq, Default)]
+/// What a type's values are, null apart.
+#[derive(Clone, Copy, PartialEq, Eq)]
 pub enum Kind {
-    #[default]
     Bool,
     I64,
     U64,
@@ -20,7 +19,7 @@ pub enum Kind {
 }
 
 /// A kind, and whether null is among its values. A `Row` is never nullable.
-#[derive(Clone, Copy, PartialEq, Eq, Default)]
+#[derive(Clone, Copy, PartialEq, Eq)]
 pub struct DType {
     pub(crate) kind: Kind,
     pub(crate) nullable: bool,
