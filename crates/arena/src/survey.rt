@@ -20,19 +20,17 @@ impl Memory {
         ensures { result ≡ surveyed no_kin
             (looked_up (store [] self.now) (named children.now (length children.now))) }
     {
-        let mut kin = Kin {
-            types: Types::none(),
-            depth: 0,
-            size: 0,
-        };
+        let mut types = Types::none();
+        let mut depth = 0;
+        let mut size = 0;
         let first = &children[..children.len().min(usize::from(MAX_CHILDREN))];
         for &child in first {
             let node = self.node(child)?;
-            kin.types.push(node.dtype);
-            kin.depth = kin.depth.max(node.depth);
-            kin.size += u32::from(node.size);
+            types.push(node.dtype);
+            depth = depth.max(node.depth);
+            size += u32::from(node.size);
         }
-        Ok(kin)
+        Ok(Kin { types, depth, size })
     }
 }
 
