@@ -3,8 +3,8 @@
 ghost use Rattle.arena.specs.LawsOfCalls.{CallsMake, CallsRebuild, CallsMakeUnbound, CallsRebuildUnbound};
 ghost use Rattle.arena.specs.LawsOfChildren.{TheFirstDecide, EightStandForAny};
 
-/// Making and rebuilding do as they are asked over all of the children, however many there are, or refuse for their
-/// causes; the store stays sound, and older nodes stay.
+/// Making and rebuilding do as they are asked over all of the children, however many there are; the store stays sound,
+/// and older nodes stay. Of bound nodes they refuse just for their causes, and of unbound ones a refusal changes nothing.
 pub fn calls_do_as_asked()
     ensures made { CallsMake }
     ensures rebuilt { CallsRebuild }
